@@ -1,0 +1,64 @@
+// A cell kind: how a cell lies in memory as a plain row of numbers, and on the wire as bytes.
+ghost use mathlib.Core.Bool.{Bool, true};
+ghost use mathlib.Core.List.{List, _++_};
+ghost use mathlib.Core.Path.{_≡_};
+ghost use Prim.Native.Nat.{ℕ, _≤_};
+ghost use lib.ListN.{drop, length, replicate};
+ghost use Rattle.std.specs.Orderings.{Decides};
+ghost use Rattle.cells.specs.Cells.{cellOf};
+ghost use Rattle.cells.specs.Faults.{answered};
+ghost use Rattle.cells.specs.Numbers.{Bytes};
+
+use crate::fault::Fault;
+
+// The most bytes that a cell of any kind has.
+pub const MOST_BYTES: usize = 16;
+
+// A plain row of a kind's numbers. Every row stands for one cell of the kind, and a cell is known by
+// its bytes: two rows stand for the same cell exactly where their bytes are the same.
+pub trait CellRow: Copy {
+    // How many bytes a cell has.
+    ghost width: { ℕ };
+
+    // The bytes of the cell that a row stands for.
+    ghost bytes: { Self → List ℕ };
+
+    // Whether bytes are those of a cell.
+    ghost reads: { List ℕ → Bool };
+
+    law least: { 1 ≤ width };
+
+    law most: { width ≤ 16 };
+
+    law wide: { (r : Self) → length (bytes r) ≡ width };
+
+    law small: { (r : Self) → Bytes (bytes r) };
+
+    // What is written is read.
+    law read: { (r : Self) → reads (bytes r) ≡ true };
+
+    // What is read has a cell's length,
+    law sized: { (bs : List ℕ) → reads bs ≡ true → length bs ≡ width };
+
+    // and is what some row's cell is written as.
+    law written: { (bs : List ℕ) → Bytes bs → reads bs ≡ true → (r : Self) × (bytes r ≡ bs) };
+
+    fn width() -> usize
+        ensures { λ r. ⌜ r ≡ width ⌝ };
+
+    // The row of the cell whose numbers, and so whose bytes, are all 0.
+    fn zero() -> Self
+        ensures { λ r. ⌜ bytes r ≡ replicate width 0 ⌝ };
+
+    // Writes the cell's bytes at the front of the buffer, and leaves the rest of it alone.
+    fn put(self, out: &mut [u8; 16])
+        ensures { λ _. ⌜ now (out .exit) ≡ bytes self ++ drop width (now (out .entry)) ⌝ };
+
+    // A row of the cell that has just these bytes.
+    fn get(from: &[u8]) -> Result<Self, Fault>
+        ensures { λ r. ⌜ answered bytes r ≡ cellOf reads (now (from .entry)) ⌝ };
+
+    // Whether two rows stand for the same cell.
+    fn same(self, other: Self) -> bool
+        ensures { λ r. ⌜ Decides r (bytes self ≡ bytes other) ⌝ };
+}
