@@ -75,6 +75,11 @@ bytes-drop (suc n) (b ∷ bs) h = bytes-drop n bs (h .1)
 pub be-field : (k at : ℕ) (bs : List ℕ) → Bytes bs → at + k ≤ length bs → be k (field k at bs) ≡ take k (drop at bs)
 be-field k at bs h l = be-value k (take k (drop at bs)) (simp (length-take, length-drop) (omega arith)) (bytes-take k (drop at bs) (bytes-drop at bs h))
 
+pub field-lt : (k at : ℕ) (bs : List ℕ) → Bytes bs → at + k ≤ length bs → field k at bs < 256 ^ k
+field-lt k at bs h l =
+    let e : length (take k (drop at bs)) ≡ k = simp (length-take, length-drop) (omega arith) in
+    subst (λ (n : ℕ). field k at bs < 256 ^ n) e (number-lt 256 (take k (drop at bs)) (bytes-take k (drop at bs) (bytes-drop at bs h)))
+
 -- two, four and eight bytes, spelled out as the machine's own conversions give them
 pub be-two : (n : ℕ) → be 2 n ≡ (n / 256 % 256) ∷ (n % 256) ∷ []
 unfolding be

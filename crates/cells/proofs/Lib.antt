@@ -1,3 +1,4 @@
 pub mod BigEndian
 pub mod Laying
 pub mod RawBytes
+pub mod ReadingBytes

@@ -2,3 +2,5 @@
 pub mod cell;
 pub mod fault;
 pub mod raw;
+pub mod reading;
+pub mod readings;

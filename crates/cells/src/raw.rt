@@ -13,7 +13,7 @@ pub struct RawBlock {
     pub low: u64,
 }
 
-pub impl CellRow for RawBlock as RawRow {
+pub impl CellRow for RawBlock as RawKind {
     ghost width = { 16 };
 
     ghost bytes = { rawBytes };

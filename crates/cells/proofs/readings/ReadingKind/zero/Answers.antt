@@ -1,6 +1,6 @@
 use mathlib.Core.Path.{refl}
 use Rattle.cells.specs.Numbers.{be}
-use Rattle.cells.proofs.raw.RawRow.zero.Needs as need
+use Rattle.cells.proofs.readings.ReadingKind.zero.Needs as need
 
 pub returns : need.returns
 unfolding be

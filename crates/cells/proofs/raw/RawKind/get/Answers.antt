@@ -10,7 +10,7 @@ use Rattle.cells.specs.Numbers.{field}
 use Rattle.cells.specs.Raws.{rawBytes, rawReads}
 use Rattle.cells.proofs.BigEndian.{bytes-from}
 use Rattle.cells.proofs.RawBytes.{raw-back}
-use Rattle.cells.proofs.raw.RawRow.get.Needs as need
+use Rattle.cells.proofs.raw.RawKind.get.Needs as need
 
 pub returns : need.returns
 returns c =

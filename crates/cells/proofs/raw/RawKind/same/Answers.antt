@@ -5,7 +5,7 @@ use borrow.Author.Needs.{needs}
 use Rattle.std.proofs.shelf.Tests.{eq-eqb, eqb-true}
 use Rattle.cells.specs.Raws.{rawBytes}
 use Rattle.cells.proofs.RawBytes.{same-raw}
-use Rattle.cells.proofs.raw.RawRow.same.Needs as need
+use Rattle.cells.proofs.raw.RawKind.same.Needs as need
 
 pub returns-then-self-other : need.returns-then-self-other
 returns-then-self-other c =

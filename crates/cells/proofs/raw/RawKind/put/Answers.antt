@@ -5,7 +5,7 @@ use lib.ListN.{length, drop}
 use Rattle.cells.specs.Numbers.{be}
 use Rattle.cells.proofs.BigEndian.{be-eight, length-be}
 use Rattle.cells.proofs.Laying.{two-parts}
-use Rattle.cells.proofs.raw.RawRow.put.Needs as need
+use Rattle.cells.proofs.raw.RawKind.put.Needs as need
 
 pub returns : need.returns
 returns c =

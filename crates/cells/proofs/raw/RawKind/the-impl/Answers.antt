@@ -2,7 +2,7 @@ use Rattle.std.proofs.shelf.Tests.{eq-eqb, eqb-true}
 use Rattle.cells.specs.Raws.{rawBytes}
 use lib.ListN.{length}
 use Rattle.cells.proofs.RawBytes.{length-raw, bytes-raw, raw-back, rawOf}
-use Rattle.cells.proofs.raw.RawRow.the-impl.Needs as need
+use Rattle.cells.proofs.raw.RawKind.the-impl.Needs as need
 
 pub wide-law : need.wide-law
 wide-law r = length-raw r
