@@ -1,4 +1,5 @@
 pub mod BigEndian
+pub mod CellOf
 pub mod Laying
 pub mod RawBytes
 pub mod ReadingBytes

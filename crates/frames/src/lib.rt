@@ -1,0 +1,4 @@
+// Frames, written into bytes and read from them, over any kind of cell.
+pub mod frame;
+pub mod make;
+pub mod reader;
