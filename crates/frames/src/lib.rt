@@ -2,3 +2,4 @@
 pub mod frame;
 pub mod make;
 pub mod reader;
+pub mod writer;
