@@ -123,3 +123,13 @@ fn parse<R: CellRow>(bytes: &[u8]) -> Result<Frame<R>, Fault>
         _ => Err(not_a_frame()),
     }
 }
+
+// Reads a datagram as a frame of a kind of cells, or refuses it: with 12 where no frame is written so,
+// else with 13 where the kind refuses a cell. What is read is what was written, and the reverse.
+pub fn read<R: CellRow>(bytes: &[u8]) -> Result<Frame<R>, Fault>
+    ensures answer { λ r. ⌜ answered (meaning (R·CellRow .bytes)) r ≡ decoded (R·CellRow .width) (R·CellRow .reads) (now (bytes .entry)) ⌝ }
+    ensures exact { λ r. ⌜ Exact (R·CellRow .width) (R·CellRow .reads) (now (bytes .entry)) (answered (meaning (R·CellRow .bytes)) r) ⌝ }
+    ensures written { λ r. ⌜ Written (R·CellRow .bytes) (now (bytes .entry)) r ⌝ }
+{
+    parse(bytes)
+}

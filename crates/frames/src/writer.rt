@@ -3,6 +3,8 @@ ghost use mathlib.Core.List.{List, _++_};
 ghost use mathlib.Core.Path.{_≡_};
 ghost use Prim.Native.Nat.{ℕ, _+_, _≤_};
 ghost use lib.ListN.{drop, length, take};
+ghost use Rattle.std.specs.declared.result.Result.the-variants.{Ok};
+ghost use Rattle.frames.specs.Format.{decoded};
 ghost use Rattle.frames.specs.Frames.{meaning, ofEntries, ofHeld, ofMarker, ofWhole, places};
 ghost use Rattle.frames.specs.Meaning.{bodies, encoded};
 
@@ -91,4 +93,15 @@ fn lay<R: CellRow>(frame: &Frame<R>, out: &mut [u8; 136]) -> usize
         Frame::Held(held) => write_held(held, out),
         Frame::Whole(whole) => write_whole(whole, out),
     }
+}
+
+// Writes a frame at the front of the buffer, leaves the rest of it alone and answers the frame's length.
+// The bytes written are read as the same frame.
+pub fn write<R: CellRow>(frame: &Frame<R>, out: &mut [u8; 136]) -> usize
+    ensures size { λ r. ⌜ r ≡ length (encoded (meaning (R·CellRow .bytes) (now (frame .entry)))) ⌝ }
+    ensures bounds { λ r. ⌜ (5 ≤ r) × (r ≤ 136) ⌝ }
+    ensures laid { λ r. ⌜ now (out .exit) ≡ encoded (meaning (R·CellRow .bytes) (now (frame .entry))) ++ drop r (now (out .entry)) ⌝ }
+    ensures back { λ r. ⌜ decoded (R·CellRow .width) (R·CellRow .reads) (take r (now (out .exit))) ≡ Ok (meaning (R·CellRow .bytes) (now (frame .entry))) ⌝ }
+{
+    lay(frame, out)
 }
