@@ -3,16 +3,14 @@ ghost use mathlib.Core.Bool.{Bool, true};
 ghost use mathlib.Core.List.{List, _++_};
 ghost use mathlib.Core.Path.{_≡_};
 ghost use Prim.Native.Nat.{ℕ, _≤_};
-ghost use lib.ListN.{drop, length, replicate};
+ghost use lib.ListN.{drop, length, replicate, take};
 ghost use Rattle.std.specs.Orderings.{Decides};
-ghost use Rattle.cells.specs.Cells.{cellOf};
+ghost use Rattle.std.specs.declared.result.Result.the-variants.{Ok};
+ghost use Rattle.cells.specs.Cells.{CellWritten, cellOf};
 ghost use Rattle.cells.specs.Faults.{answered};
 ghost use Rattle.cells.specs.Numbers.{Bytes};
 
 use crate::fault::Fault;
-
-// The most bytes that a cell of any kind has.
-pub const MOST_BYTES: usize = 16;
 
 // A plain row of a kind's numbers. Every row stands for one cell of the kind, and a cell is known by
 // its bytes: two rows stand for the same cell exactly where their bytes are the same.
@@ -61,4 +59,20 @@ pub trait CellRow: Copy {
     // Whether two rows stand for the same cell.
     fn same(self, other: Self) -> bool
         ensures { λ r. ⌜ Decides r (bytes self ≡ bytes other) ⌝ };
+}
+
+// Writes a cell of any kind. The bytes written are read as the same cell.
+pub fn write_cell<R: CellRow>(cell: R, out: &mut [u8; 16])
+    ensures laid { λ _. ⌜ now (out .exit) ≡ R·CellRow .bytes cell ++ drop (R·CellRow .width) (now (out .entry)) ⌝ }
+    ensures back { λ _. ⌜ cellOf (R·CellRow .reads) (take (R·CellRow .width) (now (out .exit))) ≡ Ok (R·CellRow .bytes cell) ⌝ }
+{
+    cell.put(out);
+}
+
+// Reads a cell of any kind. Bytes are read exactly if some cell is written so.
+pub fn read_cell<R: CellRow>(from: &[u8]) -> Result<R, Fault>
+    ensures answer { λ r. ⌜ answered (R·CellRow .bytes) r ≡ cellOf (R·CellRow .reads) (now (from .entry)) ⌝ }
+    ensures written { λ r. ⌜ CellWritten (R·CellRow .bytes) (now (from .entry)) r ⌝ }
+{
+    R::get(from)
 }

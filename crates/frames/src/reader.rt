@@ -9,6 +9,7 @@ ghost use Rattle.frames.specs.Format.{Exact, decoded, decodedEntries, decodedH
 ghost use Rattle.frames.specs.Frames.{CellsOf, Written, meaning, ofEntries, ofHeld, ofMarker, ofWhole};
 
 use cells::cell::CellRow;
+use cells::cell::read_cell;
 use cells::fault::Fault;
 use crate::frame::Entries;
 use crate::frame::Frame;
@@ -31,7 +32,7 @@ fn get_at<R: CellRow>(bytes: &[u8], at: usize) -> Result<R, Fault>
     ensures { λ r. ⌜ answered (R·CellRow .bytes) r ≡ cellOf (R·CellRow .reads) (take (R·CellRow .width) (drop at (now (bytes .entry)))) ⌝ }
 {
     let width = R::width();
-    R::get(&bytes[at..at + width])
+    read_cell(&bytes[at..at + width])
 }
 
 // The cells of a map, the lowest bit's first.

@@ -9,6 +9,7 @@ ghost use Rattle.frames.specs.Frames.{meaning, ofEntries, ofHeld, ofMarker, of
 ghost use Rattle.frames.specs.Meaning.{bodies, encoded};
 
 use cells::cell::CellRow;
+use cells::cell::write_cell;
 use crate::frame::Entries;
 use crate::frame::Frame;
 use crate::frame::Held;
@@ -22,7 +23,7 @@ fn put_at<R: CellRow>(cell: R, out: &mut [u8], at: usize)
 {
     let width = R::width();
     let mut bytes = [0; 16];
-    cell.put(&mut bytes);
+    write_cell(cell, &mut bytes);
     out[at..at + width].copy_from_slice(&bytes[0..width]);
 }
 

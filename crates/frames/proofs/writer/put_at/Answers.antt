@@ -11,6 +11,6 @@ pub returns : need.returns
 returns g c =
     let w = g .R·CellRow .width in
     let cell = g .R·CellRow .bytes (c .args .cell) in
-    let front : take w (c .put .last .out) ≡ cell = ap (take w) (c .put .ensures) ∙ take-at cell _ w (g .R·CellRow·met .wide (c .args .cell)) in
+    let front : take w (c .write-cell .last .out) ≡ cell = ap (take w) (c .write-cell .ensures .laid) ∙ take-at cell _ w (g .R·CellRow·met .wide (c .args .cell)) in
     let part : c .copy-from-slice .last .self ≡ cell = c .copy-from-slice .ensures .after ∙ simp (sub-zero, c .width-width .ensures) front in
     simp (part, c .width-width .ensures, add-sub-cancel-left, drop-drop)
