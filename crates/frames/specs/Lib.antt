@@ -1,3 +1,4 @@
 pub mod Meaning
 pub mod Format
 pub mod Frames
+pub mod Figures
