@@ -52,10 +52,6 @@ be-value k bs l h =
     let small : value bs < 256 ^ k = subst (λ (n : ℕ). value bs < 256 ^ n) l (number-lt 256 bs h) in
     same-after 0 0 (be k (value bs)) bs (length-be k (value bs) ∙ sym l) (bytes-be k (value bs)) h (value-be k (value bs) small) .1
 
--- one number for each list of bytes
-pub same-from-be : (k m n : ℕ) → m < 256 ^ k → n < 256 ^ k → be k m ≡ be k n → m ≡ n
-same-from-be k m n h l e = sym (value-be k m h) ∙ ap value e ∙ value-be k n l
-
 -- what is known of a slice, at each place
 pub bytes-from : (bs : List ℕ) → ((i : ℕ) → getD bs i 0 < 256) → Bytes bs
 bytes-from [] h = tt

@@ -9,9 +9,9 @@ use Rattle.std.specs.Orderings.{Decides}
 use Rattle.std.proofs.shelf.Lists.{take-append-drop, take-all, take-at, drop-at}
 use Rattle.std.proofs.shelf.Tests.{eq-eqb, eqb-true}
 use Rattle.cells.specs.declared.raw.RawBlock.{RawBlock}
-use Rattle.cells.specs.Numbers.{Bytes, be, field}
-use Rattle.cells.specs.Raws.{rawBytes, rawReads}
-use Rattle.cells.proofs.BigEndian.{length-be, bytes-be, be-field, same-from-be, bytes-append}
+use Rattle.cells.specs.Numbers.{Bytes, be, value, field}
+use Rattle.cells.specs.Raws.{rawBytes, rawReads, rawAt}
+use Rattle.cells.proofs.BigEndian.{length-be, bytes-be, be-field, bytes-append, value-be}
 
 pub length-raw : (r : RawBlock) → length (rawBytes r) ≡ 16
 length-raw r =
@@ -22,11 +22,8 @@ length-raw r =
 pub bytes-raw : (r : RawBlock) → Bytes (rawBytes r)
 bytes-raw r = bytes-append (be 8 (r .high)) (be 8 (r .low)) (bytes-be 8 (r .high)) (bytes-be 8 (r .low))
 
--- the block that sixteen bytes write
-abbrev pub rawOf : List ℕ → RawBlock
-rawOf bs = record { high = field 8 0 bs; low = field 8 8 bs }
-
-pub raw-back : (bs : List ℕ) → Bytes bs → length bs ≡ 16 → rawBytes (rawOf bs) ≡ bs
+-- sixteen bytes are those of the block that they write
+pub raw-back : (bs : List ℕ) → Bytes bs → length bs ≡ 16 → rawBytes (rawAt bs) ≡ bs
 raw-back bs h l =
     let e = be-field 8 0 bs h (omega arith) in
     let f = be-field 8 8 bs h (omega arith) in
@@ -34,8 +31,16 @@ raw-back bs h l =
     let s = take-append-drop 8 bs in
     cc
 
-pub same-raw : (a b : RawBlock) → a .high < 256 ^ 8 → a .low < 256 ^ 8 → b .high < 256 ^ 8 → b .low < 256 ^ 8 → rawBytes a ≡ rawBytes b → (a .high ≡ b .high) × (a .low ≡ b .low)
-same-raw a b p q r s e =
-    let u = sym (take-at (be 8 (a .high)) (be 8 (a .low)) 8 (length-be 8 (a .high))) ∙ ap (take 8) e ∙ take-at (be 8 (b .high)) (be 8 (b .low)) 8 (length-be 8 (b .high)) in
-    let v = sym (drop-at (be 8 (a .high)) (be 8 (a .low)) 8 (length-be 8 (a .high))) ∙ ap (drop 8) e ∙ drop-at (be 8 (b .high)) (be 8 (b .low)) 8 (length-be 8 (b .high)) in
-    (same-from-be 8 (a .high) (b .high) p r u, same-from-be 8 (a .low) (b .low) q s v)
+-- the block that a block's bytes write is that block
+pub raw-at : (r : RawBlock) → r .high < 256 ^ 8 → r .low < 256 ^ 8 → rawAt (rawBytes r) ≡ r
+raw-at r h l =
+    let block : ℕ → ℕ → RawBlock = λ m n. record { high = m; low = n } in
+    let long = length-be 8 (r .high) in
+    let e : field 8 0 (rawBytes r) ≡ r .high = ap value (take-at (be 8 (r .high)) (be 8 (r .low)) 8 long) ∙ value-be 8 (r .high) h in
+    let t : take 8 (be 8 (r .low)) ≡ be 8 (r .low) = take-all 8 (be 8 (r .low)) (let k = length-be 8 (r .low) in omega arith) in
+    let f : field 8 8 (rawBytes r) ≡ r .low = ap (λ (x : List ℕ). value (take 8 x)) (drop-at (be 8 (r .high)) (be 8 (r .low)) 8 long) ∙ ap value t ∙ value-be 8 (r .low) l in
+    ap (λ (n : ℕ). block n (field 8 8 (rawBytes r))) e ∙ ap (block (r .high)) f
+
+-- two blocks with the same bytes are the same
+pub same-raw : (a b : RawBlock) → a .high < 256 ^ 8 → a .low < 256 ^ 8 → b .high < 256 ^ 8 → b .low < 256 ^ 8 → rawBytes a ≡ rawBytes b → a ≡ b
+same-raw a b p q r s e = sym (raw-at a p q) ∙ ap rawAt e ∙ raw-at b r s

@@ -3,7 +3,9 @@ ghost use mathlib.Core.Bool.{Bool, true};
 ghost use mathlib.Core.List.{List, _++_};
 ghost use mathlib.Core.Path.{_≡_};
 ghost use Prim.Native.Nat.{ℕ, _≤_};
+ghost use denote.Memory.{lone};
 ghost use lib.ListN.{drop, length, replicate, take};
+ghost use prog.Memory.{align, size};
 ghost use Rattle.std.specs.Orderings.{Decides};
 ghost use Rattle.std.specs.declared.result.Result.the-variants.{Ok};
 ghost use Rattle.cells.specs.Cells.{CellWritten, cellOf};
@@ -27,6 +29,11 @@ pub trait CellRow: Copy {
     law least: { 1 ≤ width };
 
     law most: { width ≤ 16 };
+
+    // A row takes little memory, so that code over any kind can hold a page of rows.
+    law compact: { size (lone (Self·row .mir)) ≤ 64 };
+
+    law aligned: { align (lone (Self·row .mir)) ≤ 16 };
 
     law wide: { (r : Self) → length (bytes r) ≡ width };
 

@@ -7,14 +7,14 @@ use native.Mathlib.Nat.{div-one}
 use native.Mathlib.Omega.{arith}
 use lib.ListN.{length, take, drop, getD, length-append, length-take, length-drop}
 use borrow.Rule.Slice.PartMut.{putMid}
-use Rattle.std.proofs.shelf.Lists.{append-assoc, append-nil, at-drop-more, drop-all, drop-drop, drop-at, take-all, take-at, take-append-drop}
+use Rattle.std.proofs.shelf.Lists.{append-assoc, append-nil, drop-all, drop-drop, drop-at, take-all, take-at, take-append-drop}
 use Rattle.std.specs.declared.option.Option.{Option}
 use Rattle.std.specs.declared.option.Option.the-variants.{Some, None}
 use Rattle.cells.specs.Numbers.{be}
 use Rattle.cells.proofs.BigEndian.{length-be}
 use Rattle.frames.specs.Meaning.{FrameMeaning, Places, entries, marker, held, whole, encoded, mapOf, bodies}
 use Rattle.frames.specs.Frames.{place, places}
-use Rattle.frames.proofs.Places.{shr-more, place-up, place-down}
+use Rattle.frames.proofs.Places.{place-up, place-down, places-step}
 
 -- how long each frame is
 pub length-marker : (c n : ℕ) → length (encoded (marker c n)) ≡ 7
@@ -58,15 +58,9 @@ module _ {R : Type 0} (bytes : R → List ℕ) where
   pub left : ℕ → List R → ℕ → List ℕ
   left m rs i = bodies (places bytes (m / 2 ^ i) (drop i rs))
 
-  one : (m : ℕ) (rs : List R) (i : ℕ) (r : R) → i < length rs → r ≡ getD rs i r → places bytes (m / 2 ^ i) (drop i rs) ≡ place bytes (m / 2 ^ i) r ∷ places bytes (m / 2 ^ (i + 1)) (drop (i + 1) rs)
-  one m rs i r h e =
-      at-drop-more (places bytes (m / 2 ^ i)) rs i r h
-      ∙ ap (λ (x : R). place bytes (m / 2 ^ i) x ∷ places bytes (m / 2 ^ i / 2) (drop (i + 1) rs)) (sym e)
-      ∙ ap (λ (n : ℕ). place bytes (m / 2 ^ i) r ∷ places bytes n (drop (i + 1) rs)) (shr-more m i)
-
   left-is : (m : ℕ) (rs : List R) (i : ℕ) (r : R) (o : Option (List ℕ)) → i < length rs → r ≡ getD rs i r → place bytes (m / 2 ^ i) r ≡ o → left m rs i ≡ bodies (o ∷ places bytes (m / 2 ^ (i + 1)) (drop (i + 1) rs))
   unfolding left
-  left-is m rs i r o h e p = ap bodies (one m rs i r h e) ∙ ap (λ (x : Option (List ℕ)). bodies (x ∷ places bytes (m / 2 ^ (i + 1)) (drop (i + 1) rs))) p
+  left-is m rs i r o h e p = ap bodies (places-step bytes m rs i r h e) ∙ ap (λ (x : Option (List ℕ)). bodies (x ∷ places bytes (m / 2 ^ (i + 1)) (drop (i + 1) rs))) p
 
   left-up : (m : ℕ) (rs : List R) (i : ℕ) (r : R) → i < length rs → r ≡ getD rs i r → m / 2 ^ i % 2 ≡ 1 → left m rs i ≡ bytes r ++ left m rs (i + 1)
   unfolding left

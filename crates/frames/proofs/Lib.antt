@@ -4,3 +4,4 @@ pub mod Laying
 pub mod RoundTrip
 pub mod Exactness
 pub mod Kept
+pub mod Sizes

@@ -9,7 +9,7 @@ use native.Mathlib.Omega.{arith}
 use lib.Count.{ones, ones-step}
 use lib.ListN.{length, take, drop, getD, set, length-set}
 use Rattle.std.proofs.shelf.Bits.{shr-shr}
-use Rattle.std.proofs.shelf.Lists.{take-more, getD-set-same}
+use Rattle.std.proofs.shelf.Lists.{at-drop-more, take-more, getD-set-same}
 use Rattle.std.proofs.shelf.Tests.{cases-eq, eq-eqb, ne-eqb, and-from}
 use Rattle.std.specs.declared.option.Option.{Option}
 use Rattle.std.specs.declared.option.Option.the-variants.{Some, None}
@@ -62,6 +62,13 @@ module _ {R : Type 0} (bytes : R → List ℕ) where
   places-more m rs i d h =
       take-more (places bytes m rs) i None (subst (λ (n : ℕ). i < n) (sym (length-places m rs)) h)
       ∙ ap (λ (o : Option (List ℕ)). take i (places bytes m rs) ++ (o ∷ [])) (getD-places m rs i d h)
+
+  -- the places from bit i on
+  pub places-step : (m : ℕ) (rs : List R) (i : ℕ) (r : R) → i < length rs → r ≡ getD rs i r → places bytes (m / 2 ^ i) (drop i rs) ≡ place bytes (m / 2 ^ i) r ∷ places bytes (m / 2 ^ (i + 1)) (drop (i + 1) rs)
+  places-step m rs i r h e =
+      at-drop-more (places bytes (m / 2 ^ i)) rs i r h
+      ∙ ap (λ (x : R). place bytes (m / 2 ^ i) x ∷ places bytes (m / 2 ^ i / 2) (drop (i + 1) rs)) (sym e)
+      ∙ ap (λ (n : ℕ). place bytes (m / 2 ^ i) r ∷ places bytes n (drop (i + 1) rs)) (shr-more m i)
 
   -- one place more, with a cell put there and with none
   pub places-up : (m : ℕ) (rs : List R) (i : ℕ) (c : R) → i < length rs → m / 2 ^ i % 2 ≡ 1 → take (i + 1) (places bytes m (set rs i c)) ≡ take i (places bytes m rs) ++ (Some (bytes c) ∷ [])

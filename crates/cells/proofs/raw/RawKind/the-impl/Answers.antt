@@ -1,7 +1,7 @@
 use Rattle.std.proofs.shelf.Tests.{eq-eqb, eqb-true}
-use Rattle.cells.specs.Raws.{rawBytes}
+use Rattle.cells.specs.Raws.{rawBytes, rawAt}
 use lib.ListN.{length}
-use Rattle.cells.proofs.RawBytes.{length-raw, bytes-raw, raw-back, rawOf}
+use Rattle.cells.proofs.RawBytes.{length-raw, bytes-raw, raw-back}
 use Rattle.cells.proofs.raw.RawKind.the-impl.Needs as need
 
 pub wide-law : need.wide-law
@@ -14,4 +14,4 @@ pub read-law : need.read-law
 read-law r = eq-eqb (length (rawBytes r)) 16 (length-raw r)
 
 pub written-law : need.written-law
-written-law bs h e = (rawOf bs, raw-back bs h (eqb-true (length bs) 16 e))
+written-law bs h e = (rawAt bs, raw-back bs h (eqb-true (length bs) 16 e))

@@ -1,0 +1,4 @@
+// Datagrams told in words: a line of text for each, and a count of them all.
+pub mod tally;
+pub mod text;
+pub mod told;
