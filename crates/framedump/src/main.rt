@@ -1,0 +1,53 @@
+// framedump: tells what each datagram of a capture says, or why it is none.
+use std::env;
+use std::error::AnyError;
+use std::io::BufWriter;
+use std::io::Write;
+use cells::raw::RawBlock;
+use cells::raw::RawKind;
+use cells::reading::ReadingRow;
+use cells::readings::ReadingKind;
+use report::dump::dump;
+use report::text::RawText;
+use report::text::ReadingText;
+
+// The kind of cells that the capture has.
+#[derive(Clone, Copy)]
+enum Kind {
+    Raw,
+    Reading,
+}
+
+// The only argument names the kind.
+fn kind_of(rt: &LibcRuntime) -> Result<Option<Kind>, AnyError> {
+    let mut args = env::args(rt)?.skip(1);
+    let kind = match args.next() {
+        Some(word) => {
+            match word.as_str() {
+                "raw" => Some(Kind::Raw),
+                "reading" => Some(Kind::Reading),
+                _ => None,
+            }
+        }
+        None => None,
+    };
+    if args.next().is_some() {
+        return Ok(None);
+    }
+    Ok(kind)
+}
+
+fn main(rt: LibcRuntime) -> Result<(), AnyError> {
+    let Some(kind) = kind_of(&rt)? else {
+        eprintln!(rt, "usage: framedump raw|reading < CAPTURE")?;
+        return Err("no kind of cells".into());
+    };
+    let mut input = rt.stdin();
+    let mut output = BufWriter::new(rt.stdout());
+    match kind {
+        Kind::Raw => dump::<RawBlock, _, _>(rt.alloc(), &mut input, &mut output)?,
+        Kind::Reading => dump::<ReadingRow, _, _>(rt.alloc(), &mut input, &mut output)?,
+    }
+    output.flush()?;
+    Ok(())
+}
