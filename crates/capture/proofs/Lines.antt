@@ -55,16 +55,16 @@ by-closed cs bs k None h rest = broken cs bs
 by-closed cs bs k (Some d) h rest =
     let b = 16 * k + d in
     ⊎-elim
-      (λ (l : length bs < 136).
-        let long : length (bs ++ (b ∷ [])) ≤ 136 = let e = length-push bs b in omega arith in
-        ap (λ (m : LineMeaning). ended (read m cs)) (cond-true (ltb (length bs) 136) (line (Some any) (bs ++ (b ∷ []))) (line None bs) (lt-ltb (length bs) 136 l))
-        ∙ rest any (bs ++ (b ∷ [])) long
-        ∙ onto-push bs b (spelled cs any))
-      (λ (l : 136 ≤ length bs).
-        ap (λ (m : LineMeaning). ended (read m cs)) (cond-false (ltb (length bs) 136) (line (Some any) (bs ++ (b ∷ []))) (line None bs) (le-ltb (length bs) 136 l))
-        ∙ broken cs bs
-        ∙ onto-full bs b (spelled cs any) l)
-      (cases-lt (length bs) 136)
+    (λ (l : length bs < 136).
+    let long : length (bs ++ (b ∷ [])) ≤ 136 = let e = length-push bs b in omega arith in
+    ap (λ (m : LineMeaning). ended (read m cs)) (cond-true (ltb (length bs) 136) (line (Some any) (bs ++ (b ∷ []))) (line None bs) (lt-ltb (length bs) 136 l))
+    ∙ rest any (bs ++ (b ∷ [])) long
+    ∙ onto-push bs b (spelled cs any))
+    (λ (l : 136 ≤ length bs).
+    ap (λ (m : LineMeaning). ended (read m cs)) (cond-false (ltb (length bs) 136) (line (Some any) (bs ++ (b ∷ []))) (line None bs) (le-ltb (length bs) 136 l))
+    ∙ broken cs bs
+    ∙ onto-full bs b (spelled cs any) l)
+    (cases-lt (length bs) 136)
 
 by-space : (t : Bool) (cs bs : List ℕ) (o : Option ℕ) → length bs ≤ 136 → Given cs → ended (read (cond t (line (Some pair) bs) (opened bs o)) cs) ≡ fitting (onto bs (cond t (spelled cs pair) (first o (spelled cs))))
 unfolding Given

@@ -11,8 +11,8 @@ use Rattle.std.specs.declared.option.Option.the-variants.{Some, None}
 abbrev pub digitOf : ℕ → Option ℕ
 digitOf c =
     cond (leb 48 c && leb c 57) (Some (c - 48))
-      (cond (leb 65 c && leb c 70) (Some (c - 55))
-        (cond (leb 97 c && leb c 102) (Some (c - 87)) None))
+    (cond (leb 65 c && leb c 70) (Some (c - 55))
+    (cond (leb 97 c && leb c 102) (Some (c - 87)) None))
 
 -- what the rest of a line may begin with: a pair; the second digit of a pair, with the first one's value;
 -- or a space and a pair, a pair, or nothing

@@ -4,7 +4,6 @@ ghost use Prim.Native.Nat.{ℕ};
 ghost use Rattle.std.specs.Options.{mapped};
 ghost use Rattle.capture.specs.Hex.{digitOf};
 ghost use Rattle.capture.specs.Steps.{EveryLineIsRead, blank, closed, ended, joined, lineOf, opened, pushed, valueOf};
-
 use crate::line::HexLine;
 use crate::line::Nibble;
 use crate::line::Stage;
@@ -15,8 +14,12 @@ fn digit(c: u8) -> Option<Nibble>
 {
     match c as char {
         '0'..='9' => Some(Nibble { value: c - b'0' }),
-        'A'..='F' => Some(Nibble { value: c - b'A' + 10 }),
-        'a'..='f' => Some(Nibble { value: c - b'a' + 10 }),
+        'A'..='F' => Some(Nibble {
+            value: c - b'A' + 10,
+        }),
+        'a'..='f' => Some(Nibble {
+            value: c - b'a' + 10,
+        }),
         _ => None,
     }
 }
@@ -28,7 +31,11 @@ impl HexLine {
         ensures begun { λ r. ⌜ lineOf r ≡ blank ⌝ }
         ensures every { λ _. ⌜ EveryLineIsRead ⌝ }
     {
-        HexLine { bytes: [0; 136], len: 0, stage: Stage::Gap }
+        HexLine {
+            bytes: [0; 136],
+            len: 0,
+            stage: Stage::Gap,
+        }
     }
 
     // One character of the line.

@@ -45,7 +45,7 @@ pub bytes-row : (r : ReadingRow) → makes r ≡ true → Bytes (rowBytes r)
 bytes-row r e =
     let q = quality-small r e in
     bytes-append (be 4 (ofZ w32 (r .level))) (be 4 (r .second) ++ (r .quality ∷ [])) (bytes-be 4 (ofZ w32 (r .level)))
-      (bytes-append (be 4 (r .second)) (r .quality ∷ []) (bytes-be 4 (r .second)) (omega arith, tt))
+    (bytes-append (be 4 (r .second)) (r .quality ∷ []) (bytes-be 4 (r .second)) (omega arith, tt))
 
 -- nine bytes are those of the row that they write
 pub row-back : (bs : List ℕ) → Bytes bs → length bs ≡ 9 → rowBytes (rowAt bs) ≡ bs
@@ -117,37 +117,37 @@ reads-nine bs l = ap (λ (b : Bool). b && makes (rowAt bs)) (eq-eqb (length bs) 
 pub nine-from-some : (bs : List ℕ) (row : ReadingRow) → Some row ≡ cond (eqb (length bs) 9) (Some (rowAt bs)) None → (length bs ≡ 9) × (row ≡ rowAt bs)
 nine-from-some bs row e =
     ⊎-elim
-      (λ (l : eqb (length bs) 9 ≡ true). let f = cond-true (eqb (length bs) 9) (Some (rowAt bs)) None l in (eqb-true (length bs) 9 l, cc))
-      (λ (l : eqb (length bs) 9 ≡ false).
-        let f = cond-false (eqb (length bs) 9) (Some (rowAt bs)) None l in
-        let z : _≡_ {A = ℕ} 0 1 = cc in
-        absurd (omega arith))
-      (cases-bool (eqb (length bs) 9))
+    (λ (l : eqb (length bs) 9 ≡ true). let f = cond-true (eqb (length bs) 9) (Some (rowAt bs)) None l in (eqb-true (length bs) 9 l, cc))
+    (λ (l : eqb (length bs) 9 ≡ false).
+    let f = cond-false (eqb (length bs) 9) (Some (rowAt bs)) None l in
+    let z : _≡_ {A = ℕ} 0 1 = cc in
+    absurd (omega arith))
+    (cases-bool (eqb (length bs) 9))
 
 -- what reading nine bytes gives, by what their numbers make
 pub nine-made : (bs : List ℕ) (row new : ReadingRow) → Bytes bs → length bs ≡ 9 → row ≡ rowAt bs → Ok new ≡ made row → answered readingBytes (Ok new) ≡ cellOf readingReads bs
 nine-made bs row new h l e k =
     ⊎-elim
-      (λ (m : makes row ≡ true).
-        let n : new ≡ row = let f = cond-true (makes row) (Ok row) (Err notACell) m in cc in
-        let b : readingBytes new ≡ bs = ap readingBytes (n ∙ e) ∙ ap rowBytes (standing-made (rowAt bs) (ap makes (sym e) ∙ m)) ∙ row-back bs h l in
-        let t : readingReads bs ≡ true = reads-nine bs l ∙ ap makes (sym e) ∙ m in
-        ap Ok b ∙ sym (cond-true (readingReads bs) (Ok bs) (Err notACell) t))
-      (λ (m : makes row ≡ false).
-        let f = cond-false (makes row) (Ok row) (Err notACell) m in
-        let z : _≡_ {A = ℕ} 0 1 = cc in
-        absurd (omega arith))
-      (cases-bool (makes row))
+    (λ (m : makes row ≡ true).
+    let n : new ≡ row = let f = cond-true (makes row) (Ok row) (Err notACell) m in cc in
+    let b : readingBytes new ≡ bs = ap readingBytes (n ∙ e) ∙ ap rowBytes (standing-made (rowAt bs) (ap makes (sym e) ∙ m)) ∙ row-back bs h l in
+    let t : readingReads bs ≡ true = reads-nine bs l ∙ ap makes (sym e) ∙ m in
+    ap Ok b ∙ sym (cond-true (readingReads bs) (Ok bs) (Err notACell) t))
+    (λ (m : makes row ≡ false).
+    let f = cond-false (makes row) (Ok row) (Err notACell) m in
+    let z : _≡_ {A = ℕ} 0 1 = cc in
+    absurd (omega arith))
+    (cases-bool (makes row))
 
 pub nine-refused : (bs : List ℕ) (row : ReadingRow) (fault : Fault) → length bs ≡ 9 → row ≡ rowAt bs → Err fault ≡ made row → answered readingBytes (Err fault) ≡ cellOf readingReads bs
 nine-refused bs row fault l e k =
     ⊎-elim
-      (λ (m : makes row ≡ true).
-        let f = cond-true (makes row) (Ok row) (Err notACell) m in
-        let z : _≡_ {A = ℕ} 0 1 = cc in
-        absurd (omega arith))
-      (λ (m : makes row ≡ false).
-        let n : fault ≡ notACell = let f = cond-false (makes row) (Ok row) (Err notACell) m in cc in
-        let t : readingReads bs ≡ false = reads-nine bs l ∙ ap makes (sym e) ∙ m in
-        ap Err n ∙ sym (cond-false (readingReads bs) (Ok bs) (Err notACell) t))
-      (cases-bool (makes row))
+    (λ (m : makes row ≡ true).
+    let f = cond-true (makes row) (Ok row) (Err notACell) m in
+    let z : _≡_ {A = ℕ} 0 1 = cc in
+    absurd (omega arith))
+    (λ (m : makes row ≡ false).
+    let n : fault ≡ notACell = let f = cond-false (makes row) (Ok row) (Err notACell) m in cc in
+    let t : readingReads bs ≡ false = reads-nine bs l ∙ ap makes (sym e) ∙ m in
+    ap Err n ∙ sym (cond-false (readingReads bs) (Ok bs) (Err notACell) t))
+    (cases-bool (makes row))

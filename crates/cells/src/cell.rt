@@ -11,7 +11,6 @@ ghost use Rattle.std.specs.declared.result.Result.the-variants.{Ok};
 ghost use Rattle.cells.specs.Cells.{CellWritten, cellOf};
 ghost use Rattle.cells.specs.Faults.{answered};
 ghost use Rattle.cells.specs.Numbers.{Bytes};
-
 use crate::fault::Fault;
 
 // A plain row of a kind's numbers. Every row stands for one cell of the kind, and a cell is known by

@@ -82,21 +82,37 @@ impl Fault {
     pub fn new(refusal: Refusal, layer: Layer) -> Fault
         ensures { λ r. ⌜ r ≡ fault refusal layer ⌝ }
     {
-        Fault { refusal, layer, side: None, cycle: 0, volume: None }
+        Fault {
+            refusal,
+            layer,
+            side: None,
+            cycle: 0,
+            volume: None,
+        }
     }
 
     // A group's refusal, with the volume that it is about.
     pub fn in_volume(refusal: Refusal, volume: usize) -> Fault
         ensures { λ r. ⌜ r ≡ faultIn refusal volume ⌝ }
     {
-        Fault { refusal, layer: Layer::Group, side: None, cycle: 0, volume: Some(volume) }
+        Fault {
+            refusal,
+            layer: Layer::Group,
+            side: None,
+            cycle: 0,
+            volume: Some(volume),
+        }
     }
 
     // The same fault, on the side and in the cycle of the end that passes it up.
     pub fn at(self, side: Side, cycle: u32) -> Fault
         ensures { λ r. ⌜ r ≡ placed side cycle self ⌝ }
     {
-        Fault { side: Some(side), cycle, ..self }
+        Fault {
+            side: Some(side),
+            cycle,
+            ..self
+        }
     }
 }
 

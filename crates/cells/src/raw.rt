@@ -1,7 +1,6 @@
 // Raw blocks: two 64-bit numbers, sixteen bytes. Every row is a cell, and every sixteen bytes are one.
 ghost use Prim.Native.Nat.{ℕ};
 ghost use Rattle.cells.specs.Raws.{rawBytes, rawReads};
-
 use crate::cell::CellRow;
 use crate::fault::Fault;
 use crate::fault::Layer;

@@ -8,7 +8,6 @@ ghost use Rattle.std.specs.declared.option.Option.the-variants.{Some, None};
 ghost use Rattle.std.specs.Orderings.{Decides};
 ghost use Rattle.cells.specs.Faults.{answered, notACell};
 ghost use Rattle.cells.specs.Readings.{made, qualityNumber, qualityOf, readingBytes, readingOf, readingReads, rowAt, rowOf, standing};
-
 use crate::cell::CellRow;
 use crate::fault::Fault;
 use crate::fault::Layer;
@@ -55,7 +54,11 @@ impl Reading {
         if level < LOWEST || level > HIGHEST {
             return Err(not_a_reading());
         }
-        Ok(Reading { level, second, quality })
+        Ok(Reading {
+            level,
+            second,
+            quality,
+        })
     }
 
     // The row of a reading, which stands for just that reading.
@@ -63,7 +66,11 @@ impl Reading {
         ensures numbers { λ r. ⌜ r ≡ rowOf self ⌝ }
         ensures stands { λ r. ⌜ standing r ≡ r ⌝ }
     {
-        ReadingRow { level: self.level, second: self.second, quality: self.quality.number() }
+        ReadingRow {
+            level: self.level,
+            second: self.second,
+            quality: self.quality.number(),
+        }
     }
 }
 
@@ -74,7 +81,11 @@ impl ReadingRow {
     {
         match self.numbers() {
             Ok(reading) => reading,
-            Err(_) => Reading { level: 0, second: 0, quality: Quality::Good },
+            Err(_) => Reading {
+                level: 0,
+                second: 0,
+                quality: Quality::Good,
+            },
         }
     }
 
@@ -102,7 +113,11 @@ fn row_at(from: &[u8]) -> Option<ReadingRow>
     };
     let level = i32::from_be_bytes([*a, *b, *c, *d]);
     let second = u32::from_be_bytes([*e, *f, *g, *h]);
-    Some(ReadingRow { level, second, quality: *quality })
+    Some(ReadingRow {
+        level,
+        second,
+        quality: *quality,
+    })
 }
 
 pub impl CellRow for ReadingRow as ReadingKind {
@@ -117,7 +132,11 @@ pub impl CellRow for ReadingRow as ReadingKind {
     }
 
     fn zero() -> ReadingRow {
-        ReadingRow { level: 0, second: 0, quality: 0 }
+        ReadingRow {
+            level: 0,
+            second: 0,
+            quality: 0,
+        }
     }
 
     fn put(self, out: &mut [u8; 16]) {

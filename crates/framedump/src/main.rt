@@ -1,8 +1,4 @@
 // framedump: tells what each datagram of a capture says, or why it is none.
-use std::env;
-use std::error::AnyError;
-use std::io::BufWriter;
-use std::io::Write;
 use cells::raw::RawBlock;
 use cells::raw::RawKind;
 use cells::reading::ReadingRow;
@@ -10,6 +6,10 @@ use cells::readings::ReadingKind;
 use report::dump::dump;
 use report::text::RawText;
 use report::text::ReadingText;
+use std::env;
+use std::error::AnyError;
+use std::io::BufWriter;
+use std::io::Write;
 
 // The kind of cells that the capture has.
 #[derive(Clone, Copy)]
@@ -37,11 +37,7 @@ fn kind_of(rt: &LibcRuntime) -> Result<Option<Kind>, AnyError> {
     Ok(kind)
 }
 
-fn main(rt: LibcRuntime) -> Result<(), AnyError> {
-    let Some(kind) = kind_of(&rt)? else {
-        eprintln!(rt, "usage: framedump raw|reading < CAPTURE")?;
-        return Err("no kind of cells".into());
-    };
+fn run(rt: &LibcRuntime, kind: Kind) -> Result<(), AnyError> {
     let mut input = rt.stdin();
     let mut output = BufWriter::new(rt.stdout());
     match kind {
@@ -50,4 +46,12 @@ fn main(rt: LibcRuntime) -> Result<(), AnyError> {
     }
     output.flush()?;
     Ok(())
+}
+
+fn main(rt: LibcRuntime) -> Result<(), AnyError> {
+    let Some(kind) = kind_of(&rt)? else {
+        eprintln!(rt, "usage: framedump raw|reading < CAPTURE")?;
+        return Err("no kind of cells".into());
+    };
+    rt.report(run(&rt, kind))
 }

@@ -1,11 +1,11 @@
 // The cases of framedump for raw blocks.
-use std::error::AnyError;
-use std::io::BufWriter;
-use std::io::Write;
 use cells::raw::RawBlock;
 use cells::raw::RawKind;
 use report::dump::dump;
 use report::text::RawText;
+use std::error::AnyError;
+use std::io::BufWriter;
+use std::io::Write;
 
 fn main(rt: LibcRuntime) -> Result<(), AnyError> {
     let mut input = rt.stdin();

@@ -86,17 +86,17 @@ module _ {R : Type 0} (bytes : R → List ℕ) (reads : List ℕ → Bool) (w m 
       let hi : i < length rs = omega arith in
       let o : Places = Some (take w (drop at bs)) ∷ [] in
       let k : take (i + 1) (places bytes m (set rs i c)) ≡ take i (places bytes m rs) ++ o =
-        places-up bytes m rs i c hi b ∙ ap (λ (x : List ℕ). take i (places bytes m rs) ++ (Some x ∷ [])) e in
+      places-up bytes m rs i c hi b ∙ ap (λ (x : List ℕ). take i (places bytes m rs) ++ (Some x ∷ [])) e in
       let d : drop (at + w) bs ≡ drop w (drop at bs) = sym (drop-drop w at bs) in
       record {
         eight = length-set rs i c ∙ v .eight;
         all = step rs i at (at + w) o (take (i + 1) (places bytes m (set rs i c))) k (ap (λ (l : List ℕ). Some (take w (drop at bs)) ∷ parted w (8 - (i + 1)) (m / 2 ^ (i + 1)) l) d ∙ sym (cut-up w m i (drop at bs) h b)) v;
         fine =
-          ap (allRead reads) k
-          ∙ allRead-++ reads (take i (places bytes m rs)) o
-          ∙ ap (λ (t : Bool). t && (reads (take w (drop at bs)) && true)) (v .fine)
-          ∙ ap (λ (t : Bool). t && true) r;
-        long = long-up m i w at (length bs) b (v .long)
+            ap (allRead reads) k
+            ∙ allRead-++ reads (take i (places bytes m rs)) o
+            ∙ ap (λ (t : Bool). t && (reads (take w (drop at bs)) && true)) (v .fine)
+            ∙ ap (λ (t : Bool). t && true) r;
+        long = long-up m i w at (length bs) b (v .long);
       }
 
   pub cutting-down : (rs : List R) (i at : ℕ) → i < 8 → (m / 2 ^ i % 2 ≡ 1 → ⊥) → Cutting bytes reads w m rs bs i at → Cutting bytes reads w m rs bs (i + 1) at
@@ -107,7 +107,7 @@ module _ {R : Type 0} (bytes : R → List ℕ) (reads : List ℕ → Bool) (w m 
         eight = v .eight;
         all = step rs i at at (None ∷ []) (take (i + 1) (places bytes m rs)) k (sym (cut-down w m i (drop at bs) h b)) v;
         fine = ap (allRead reads) k ∙ allRead-++ reads (take i (places bytes m rs)) (None ∷ []) ∙ ap (λ (t : Bool). t && true) (v .fine);
-        long = long-down m i w at (length bs) b (v .long)
+        long = long-down m i w at (length bs) b (v .long);
       }
 
   -- one cell that is not read refuses them all
@@ -126,8 +126,8 @@ module _ {R : Type 0} (bytes : R → List ℕ) (reads : List ℕ → Bool) (w m 
       let t : take i (places bytes m rs) ≡ places bytes m rs = take-all i (places bytes m rs) l in
       let z : 8 - i ≡ 0 = omega arith in
       let e : places bytes m rs ≡ parted w 8 m bs =
-        sym (append-nil (places bytes m rs))
-        ∙ ap (λ (x : Places). x ++ []) (sym t)
-        ∙ ap (λ (n : ℕ). take i (places bytes m rs) ++ parted w n (m / 2 ^ i) (drop at bs)) (sym z)
-        ∙ v .all in
+      sym (append-nil (places bytes m rs))
+      ∙ ap (λ (x : Places). x ++ []) (sym t)
+      ∙ ap (λ (n : ℕ). take i (places bytes m rs) ++ parted w n (m / 2 ^ i) (drop at bs)) (sym z)
+      ∙ v .all in
       (e, ap (allRead reads) (sym e ∙ sym t) ∙ v .fine)

@@ -66,6 +66,6 @@ module _ {R : Type 0} (bytes : R → List ℕ) (reads : List ℕ → Bool) (w : 
   as-written bs (Ok f) small e = subst (Exact w reads bs) (sym e) (exact w reads bs small) .2
   as-written bs (Err x) small e =
       λ f g.
-        let h : decoded w reads bs ≡ Ok (meaning bytes f) = ap (decoded w reads) (sym g) ∙ read-back f in
-        let z : _≡_ {A = ℕ} 0 1 = cc in
-        omega arith
+      let h : decoded w reads bs ≡ Ok (meaning bytes f) = ap (decoded w reads) (sym g) ∙ read-back f in
+      let z : _≡_ {A = ℕ} 0 1 = cc in
+      omega arith

@@ -90,12 +90,12 @@ module _ {R : Type 0} (bytes : R → List ℕ) where
       let d : drop (at + w) new ≡ drop (at + w) out = ap (drop (at + w)) f′ ∙ drop-at front (drop (at + w) out) (at + w) lf in
       record {
         all =
-          ap (λ (x : List ℕ). x ++ left m rs (i + 1)) t
-          ∙ append-assoc (take at out) (bytes r) (left m rs (i + 1))
-          ∙ ap (λ (x : List ℕ). take at out ++ x) (sym (left-up m rs i r h e b))
-          ∙ v .all;
+            ap (λ (x : List ℕ). x ++ left m rs (i + 1)) t
+            ∙ append-assoc (take at out) (bytes r) (left m rs (i + 1))
+            ∙ ap (λ (x : List ℕ). take at out ++ x) (sym (left-up m rs i r h e b))
+            ∙ v .all;
         rest = d ∙ sym (drop-drop w at out) ∙ ap (drop w) (v .rest) ∙ drop-drop w at old;
-        low = let q = v .low in omega arith
+        low = let q = v .low in omega arith;
       }
 
   pub laid-down : (m : ℕ) (rs : List R) (old out : List ℕ) (i at : ℕ) (r : R) → i < length rs → r ≡ getD rs i r → (m / 2 ^ i % 2 ≡ 1 → ⊥) → Laid m rs old out i at → Laid m rs old out (i + 1) at
@@ -106,9 +106,10 @@ module _ {R : Type 0} (bytes : R → List ℕ) where
   unfolding left
   laid-all m rs old out i at h k v =
       let z : take at out ≡ bodies (places bytes m rs) = sym (append-nil (take at out)) ∙ ap (λ (l : List R). take at out ++ bodies (places bytes (m / 2 ^ i) l)) (sym (drop-all i rs h)) ∙ v .all in
-      let la : length (take at out) ≡ at = simp length-take (omega arith) in
-      (sym la ∙ ap length z,
-       sym (take-append-drop at out) ∙ ap (λ (x : List ℕ). x ++ drop at out) z ∙ ap (λ (x : List ℕ). bodies (places bytes m rs) ++ x) (v .rest))
+      let la : length (take at out) ≡ at = simp length-take (omega arith) in (
+        sym la ∙ ap length z,
+        sym (take-append-drop at out) ∙ ap (λ (x : List ℕ). x ++ drop at out) z ∙ ap (λ (x : List ℕ). bodies (places bytes m rs) ++ x) (v .rest),
+      )
 
   -- the same at other names for the buffer and the place
   pub relaid : (m : ℕ) (rs : List R) (old : List ℕ) {out new : List ℕ} (i : ℕ) {at to : ℕ} → new ≡ out → to ≡ at → Laid m rs old out i at → Laid m rs old new i to

@@ -97,8 +97,8 @@ module _ {R : Type 0} (bytes : R → List ℕ) where
     read-places m [] = refl
     read-places m (r ∷ rs) =
         by-bit (λ o. allRead reads (o ∷ places bytes (m / 2) rs) ≡ true) m r
-          (λ b. and-from (reads (bytes r)) (allRead reads (places bytes (m / 2) rs)) (read r) (read-places (m / 2) rs))
-          (λ b. read-places (m / 2) rs)
+        (λ b. and-from (reads (bytes r)) (allRead reads (places bytes (m / 2) rs)) (read r) (read-places (m / 2) rs))
+        (λ b. read-places (m / 2) rs)
 
     pub wide-places : (m : ℕ) (rs : List R) → Wide w (places bytes m rs)
     wide-places m [] = tt

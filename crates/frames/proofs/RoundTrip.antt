@@ -142,7 +142,7 @@ module _ (w : ℕ) (reads : List ℕ → Bool) where
       let l = length-paged 7 c p (m ∷ bodies ps) in
       let cut : parted w 8 m (bodies ps) ≡ ps = ap (λ (n : ℕ). parted w n m (bodies ps)) (sym (h .2)) ∙ parted-bodies w ps (h .4) in
       let good : (eqb (length (bodies ps)) (ones m * w) && paged c p m) ≡ true =
-        and-from (eqb (length (bodies ps)) (ones m * w)) (paged c p m) (eq-eqb (length (bodies ps)) (ones m * w) (length-bodies w ps (h .4))) (paged-from c p m (h .0) (h .1) (h .3)) in
+      and-from (eqb (length (bodies ps)) (ones m * w)) (paged c p m) (eq-eqb (length (bodies ps)) (ones m * w) (length-bodies w ps (h .4))) (paged-from c p m (h .0) (h .1) (h .3)) in
       let of : Places → Result FrameMeaning Fault = λ x. cond (allRead reads x) (Ok (entries c p x)) (Err notACell) in
       cond-true (leb 8 (length bs)) (entriesIn w reads (field 4 1 bs) (field 2 5 bs) (getD bs 7 0) (drop 8 bs)) (Err notAFrame) (le-leb 8 (length bs) (omega arith))
       ∙ ap (λ (x : ℕ). entriesIn w reads x (field 2 5 bs) (getD bs 7 0) (drop 8 bs)) ec

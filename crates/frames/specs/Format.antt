@@ -44,8 +44,8 @@ entriesOf c p m ps = cond (paged c p m) (Ok (entries c p ps)) (Err notAFrame)
 abbrev pub entriesIn : ℕ → (List ℕ → Bool) → ℕ → ℕ → ℕ → List ℕ → Result FrameMeaning Fault
 entriesIn w reads c p m bs =
     cond (eqb (length bs) (ones m * w) && paged c p m)
-      (cond (allRead reads (parted w 8 m bs)) (Ok (entries c p (parted w 8 m bs))) (Err notACell))
-      (Err notAFrame)
+    (cond (allRead reads (parted w 8 m bs)) (Ok (entries c p (parted w 8 m bs))) (Err notACell))
+    (Err notAFrame)
 
 -- bytes as a frame of each kind, whatever the first byte: the cycle lies at byte 1, the page or the count
 -- at byte 5, a map at byte 7 and cells behind it
@@ -65,9 +65,9 @@ decodedWhole bs = cond (eqb (length bs) 5) (wholeOf (field 4 1 bs)) (Err notAFra
 abbrev pub decoded : ℕ → (List ℕ → Bool) → List ℕ → Result FrameMeaning Fault
 decoded w reads bs =
     cond (eqb (getD bs 0 0) 7) (decodedEntries w reads bs)
-      (cond (eqb (getD bs 0 0) 9) (decodedMarker bs)
-        (cond (eqb (getD bs 0 0) 19) (decodedHeld bs)
-          (cond (eqb (getD bs 0 0) 1) (decodedWhole bs) (Err notAFrame))))
+    (cond (eqb (getD bs 0 0) 9) (decodedMarker bs)
+    (cond (eqb (getD bs 0 0) 19) (decodedHeld bs)
+    (cond (eqb (getD bs 0 0) 1) (decodedWhole bs) (Err notAFrame))))
 
 -- what reading must answer, by what is written: a frame exactly for the bytes that it is written as;
 -- the refusal of a cell exactly where those of a frame hold a cell that the kind refuses; the refusal of

@@ -10,5 +10,23 @@ pub fn worked_datagram() -> [u8; 17]
     ensures datagram { λ r. ⌜ r ≡ encoded (entryAt 1 2 (readingBytes lowReading)) ⌝ }
     ensures figures { λ _. ⌜ WorkedFigures ⌝ }
 {
-    [0x07, 0, 0, 0, 1, 0, 0, 0x04, 0xff, 0xff, 0xff, 0xfb, 0, 0, 0, 60, 0]
+    [
+        0x07,
+        0,
+        0,
+        0,
+        1,
+        0,
+        0,
+        0x04,
+        0xff,
+        0xff,
+        0xff,
+        0xfb,
+        0,
+        0,
+        0,
+        60,
+        0,
+    ]
 }

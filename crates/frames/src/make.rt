@@ -4,15 +4,14 @@ ghost use Prim.Native.Nat.{ℕ};
 ghost use Rattle.cells.specs.Faults.{answered, notAFrame};
 ghost use Rattle.frames.specs.Format.{entriesOf, heldOf, markerOf, paged, wholeOf};
 ghost use Rattle.frames.specs.Frames.{ofEntries, ofHeld, ofMarker, ofWhole, places};
-
-use cells::cell::CellRow;
-use cells::fault::Fault;
-use cells::fault::Layer;
-use cells::fault::Refusal;
 use crate::frame::Entries;
 use crate::frame::Held;
 use crate::frame::Marker;
 use crate::frame::Whole;
+use cells::cell::CellRow;
+use cells::fault::Fault;
+use cells::fault::Layer;
+use cells::fault::Refusal;
 
 // One above the highest cycle number of a frame.
 pub(crate) const NO_CYCLE: u32 = 4_294_967_295;
@@ -75,6 +74,11 @@ impl<R: CellRow> Entries<R> {
         if !is_paged(cycle, page, map) {
             return Err(not_a_frame());
         }
-        Ok(Entries { cycle, page, map, cells })
+        Ok(Entries {
+            cycle,
+            page,
+            map,
+            cells,
+        })
     }
 }

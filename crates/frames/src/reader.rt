@@ -7,10 +7,6 @@ ghost use Rattle.cells.specs.Cells.{cellOf};
 ghost use Rattle.cells.specs.Faults.{answered};
 ghost use Rattle.frames.specs.Format.{Exact, decoded, decodedEntries, decodedHeld, decodedMarker, decodedWhole, entriesIn, parted};
 ghost use Rattle.frames.specs.Frames.{CellsOf, Written, meaning, ofEntries, ofHeld, ofMarker, ofWhole};
-
-use cells::cell::CellRow;
-use cells::cell::read_cell;
-use cells::fault::Fault;
 use crate::frame::Entries;
 use crate::frame::Frame;
 use crate::frame::Held;
@@ -18,6 +14,9 @@ use crate::frame::Marker;
 use crate::frame::Whole;
 use crate::make::is_paged;
 use crate::make::not_a_frame;
+use cells::cell::CellRow;
+use cells::cell::read_cell;
+use cells::fault::Fault;
 
 // How many bytes the cells of a map have.
 fn cells_len<R: CellRow>(map: u8) -> usize
@@ -52,14 +51,24 @@ fn read_cells<R: CellRow>(map: u8, bytes: &[u8]) -> Result<[R; 8], Fault>
     Ok(cells)
 }
 
-fn read_entries<R: CellRow>(cycle: u32, page: u16, map: u8, bytes: &[u8]) -> Result<Entries<R>, Fault>
+fn read_entries<R: CellRow>(
+    cycle: u32,
+    page: u16,
+    map: u8,
+    bytes: &[u8],
+) -> Result<Entries<R>, Fault>
     ensures { λ r. ⌜ answered (ofEntries (R·CellRow .bytes)) r ≡ entriesIn (R·CellRow .width) (R·CellRow .reads) cycle page map (now (bytes .entry)) ⌝ }
 {
     if bytes.len() != cells_len::<R>(map) || !is_paged(cycle, page, map) {
         return Err(not_a_frame());
     }
     let cells = read_cells(map, bytes)?;
-    Ok(Entries { cycle, page, map, cells })
+    Ok(Entries {
+        cycle,
+        page,
+        map,
+        cells,
+    })
 }
 
 fn read_page<R: CellRow>(bytes: &[u8]) -> Result<Entries<R>, Fault>

@@ -7,14 +7,13 @@ ghost use Rattle.std.specs.declared.result.Result.the-variants.{Ok};
 ghost use Rattle.frames.specs.Format.{decoded};
 ghost use Rattle.frames.specs.Frames.{meaning, ofEntries, ofHeld, ofMarker, ofWhole, places};
 ghost use Rattle.frames.specs.Meaning.{bodies, encoded};
-
-use cells::cell::CellRow;
-use cells::cell::write_cell;
 use crate::frame::Entries;
 use crate::frame::Frame;
 use crate::frame::Held;
 use crate::frame::Marker;
 use crate::frame::Whole;
+use cells::cell::CellRow;
+use cells::cell::write_cell;
 
 // A cell's bytes, at a place.
 fn put_at<R: CellRow>(cell: R, out: &mut [u8], at: usize)

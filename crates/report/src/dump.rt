@@ -8,15 +8,14 @@ ghost use Rattle.capture.specs.Steps.{ended};
 ghost use Rattle.report.specs.Reports.{heard, lineText};
 ghost use Rattle.report.specs.Tallies.{tallyText};
 ghost use Rattle.report.specs.Dumping.{byteRead, bytesRead, dumpOf, finished, lineEnded, started};
-
+use crate::tally::Tally;
+use crate::text::CellText;
+use crate::told::push_line;
+use capture::line::HexLine;
 use std::alloc::Global;
 use std::error::AnyError;
 use std::io::Read;
 use std::io::Write;
-use capture::line::HexLine;
-use crate::tally::Tally;
-use crate::text::CellText;
-use crate::told::push_line;
 
 // What is known between two bytes of a capture.
 #[derive(Drop)]
@@ -33,7 +32,12 @@ impl Dumper {
     fn new(heap: Global) -> Dumper
         ensures { λ r. ⌜ dumpOf r ≡ started ⌝ }
     {
-        Dumper { line: HexLine::new(), begun: false, text: String::new(heap), tally: Tally::new() }
+        Dumper {
+            line: HexLine::new(),
+            begun: false,
+            text: String::new(heap),
+            tally: Tally::new(),
+        }
     }
 
     // Tells the line that ends here.
@@ -90,7 +94,11 @@ impl Dumper {
 }
 
 // Reads the input to its end, and writes a line for each line of it, and a summary.
-pub fn dump<R: CellText, I: Read, W: Write>(heap: Global, input: &mut I, output: &mut W) -> Result<(), AnyError> {
+pub fn dump<R: CellText, I: Read, W: Write>(
+    heap: Global,
+    input: &mut I,
+    output: &mut W,
+) -> Result<(), AnyError> {
     let mut dumper = Dumper::new(heap);
     let mut chunk = [0; 4096];
     for _ in 0..u64::MAX {

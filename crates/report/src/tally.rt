@@ -4,7 +4,6 @@ ghost use Prim.Native.Nat.{ℕ};
 ghost use Rattle.std.specs.Of.String.{string-bytes};
 ghost use Rattle.report.specs.Lines.{Appended};
 ghost use Rattle.report.specs.Tallies.{counted, more, none, tallyText};
-
 use std::fmt;
 
 // What a line of a capture was.
@@ -42,7 +41,15 @@ impl Tally {
     pub fn new() -> Tally
         ensures { λ r. ⌜ r ≡ none ⌝ }
     {
-        Tally { datagrams: 0, entries: 0, markers: 0, held: 0, whole: 0, refused: 0, unreadable: 0 }
+        Tally {
+            datagrams: 0,
+            entries: 0,
+            markers: 0,
+            held: 0,
+            whole: 0,
+            refused: 0,
+            unreadable: 0,
+        }
     }
 
     // One more line, of this outcome.
@@ -64,8 +71,22 @@ impl Tally {
     pub fn push_summary(&self, line: &mut String) -> fmt::Result
         ensures { λ r. ⌜ Appended r (string-bytes (now (line .entry))) (tallyText (now (self .entry))) (string-bytes (now (line .exit))) ⌝ }
     {
-        let Tally { datagrams, entries, markers, held, whole, refused, unreadable } = *self;
-        write!(line, "{datagrams} datagrams: {entries} entries, {markers} markers, {held} held, ")?;
-        write!(line, "{whole} whole, {refused} refused, {unreadable} unreadable")
+        let Tally {
+            datagrams,
+            entries,
+            markers,
+            held,
+            whole,
+            refused,
+            unreadable,
+        } = *self;
+        write!(
+            line,
+            "{datagrams} datagrams: {entries} entries, {markers} markers, {held} held, "
+        )?;
+        write!(
+            line,
+            "{whole} whole, {refused} refused, {unreadable} unreadable"
+        )
     }
 }

@@ -5,13 +5,12 @@ ghost use Prim.Native.Nat.{ℕ};
 ghost use Rattle.std.specs.Of.String.{string-bytes};
 ghost use Rattle.report.specs.Lines.{Appended};
 ghost use Rattle.report.specs.Texts.{rawText, readingText};
-
-use std::fmt;
 use cells::cell::CellRow;
 use cells::raw::RawBlock;
 use cells::raw::RawKind;
 use cells::reading::ReadingRow;
 use cells::readings::ReadingKind;
+use std::fmt;
 
 // A kind whose cells can be told in words.
 pub trait CellText: CellRow {

@@ -10,15 +10,14 @@ ghost use Rattle.frames.specs.Format.{decoded};
 ghost use Rattle.frames.specs.Frames.{meaning, ofEntries, ofHeld, places};
 ghost use Rattle.report.specs.Lines.{Appended};
 ghost use Rattle.report.specs.Reports.{Told, answerOutcome, answerText, entriesText, entryText, frameOutcome, frameText, heard, heldText, lineOutcome, lineText};
-
-use std::fmt;
+use crate::tally::Outcome;
+use crate::text::CellText;
 use capture::line::HexLine;
 use frames::frame::Entries;
 use frames::frame::Frame;
 use frames::frame::Held;
 use frames::reader::read;
-use crate::tally::Outcome;
-use crate::text::CellText;
+use std::fmt;
 
 // One entry of a page.
 fn push_entry<R: CellText>(address: usize, cell: R, line: &mut String) -> fmt::Result

@@ -8,4 +8,5 @@ returns g c =
     let r = c .args .cell in
     record {
       laid = c .put .ensures;
-      back = cell-back (g .R·CellRow .bytes) (g .R·CellRow .reads) (g .R·CellRow·met .read) w r (drop w (c .args .out .now)) (c .put .last .out) (g .R·CellRow·met .wide r) (c .put .ensures) }
+      back = cell-back (g .R·CellRow .bytes) (g .R·CellRow .reads) (g .R·CellRow·met .read) w r (drop w (c .args .out .now)) (c .put .last .out) (g .R·CellRow·met .wide r) (c .put .ensures);
+    }

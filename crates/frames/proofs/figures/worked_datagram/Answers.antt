@@ -10,16 +10,18 @@ returns c =
     record {
       datagram = refl;
       figures =
-        record {
-          reading = refl;
-          reading-back = refl;
-          entry = refl;
-          entry-back = refl;
-          whole-none = λ w reads. refl;
-          marker-none = λ w reads. refl;
-          highest = refl;
-          highest-made = refl;
-          above = refl;
-          above-made = refl;
-          quality = refl;
-          quality-made = refl } }
+          record {
+            reading = refl;
+            reading-back = refl;
+            entry = refl;
+            entry-back = refl;
+            whole-none = λ w reads. refl;
+            marker-none = λ w reads. refl;
+            highest = refl;
+            highest-made = refl;
+            above = refl;
+            above-made = refl;
+            quality = refl;
+            quality-made = refl;
+          };
+    }

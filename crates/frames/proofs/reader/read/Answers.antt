@@ -19,4 +19,5 @@ returns g c =
     record {
       answer = c .parse .ensures;
       exact = subst (Exact w reads bs) (sym (c .parse .ensures)) (exact w reads bs small);
-      written = as-written (g .R·CellRow .bytes) reads w (g .R·CellRow·met .read) (g .R·CellRow·met .wide) bs (c .parse .result) small (c .parse .ensures) }
+      written = as-written (g .R·CellRow .bytes) reads w (g .R·CellRow·met .read) (g .R·CellRow·met .wide) bs (c .parse .result) small (c .parse .ensures);
+    }

@@ -38,13 +38,14 @@ loop-i-again g c =
     let i = c .loop-i .i in
     let at = c .loop-i .at in
     elim (c .if-map-i-eq1 .came) [
-      then-map-i-eq1·in-Continue-cells y ↦
-        let cell = y .in-Continue-cells .field-0 in
-        let r = read-from-ok reads (take w (drop at bs)) (bytes cell) (y .in-Continue-cells .ensures tt) in
-        let v = cutting-up bytes reads w m bs rs i at cell (c .loop-i-test .taken) (y .if-map-i-eq1 .taken) (r .0) (r .1) (c .loop-i .inv) in
-        moved bytes reads w m bs (i + 1) (y .cells-is) (y .at-is ∙ ap (λ n. at + n) (c .width-width .ensures)) v
-    | else-map-i-eq1 y ↦
-        moved bytes reads w m bs (i + 1) (y .cells-is) (y .at-is) (cutting-down bytes reads w m bs rs i at (c .loop-i-test .taken) (y .if-map-i-eq1 .left) (c .loop-i .inv)) ]
+      | then-map-i-eq1·in-Continue-cells y ↦
+          let cell = y .in-Continue-cells .field-0 in
+          let r = read-from-ok reads (take w (drop at bs)) (bytes cell) (y .in-Continue-cells .ensures tt) in
+          let v = cutting-up bytes reads w m bs rs i at cell (c .loop-i-test .taken) (y .if-map-i-eq1 .taken) (r .0) (r .1) (c .loop-i .inv) in
+          moved bytes reads w m bs (i + 1) (y .cells-is) (y .at-is ∙ ap (λ n. at + n) (c .width-width .ensures)) v
+      | else-map-i-eq1 y ↦
+          moved bytes reads w m bs (i + 1) (y .cells-is) (y .at-is) (cutting-down bytes reads w m bs rs i at (c .loop-i-test .taken) (y .if-map-i-eq1 .left) (c .loop-i .inv))
+    ]
 
 pub returns : need.returns
 returns g c =

@@ -16,4 +16,5 @@ returns g c =
       size = l;
       bounds = subst (λ (n : ℕ). (5 ≤ n) × (n ≤ 136)) (sym l) (bounded bytes reads w read wide (g .R·CellRow·met .most) f);
       laid = c .lay .ensures .laid;
-      back = read-written bytes reads w read wide f (c .lay .result) (c .args .out .now) (c .lay .last .out) l (c .lay .ensures .laid) }
+      back = read-written bytes reads w read wide f (c .lay .result) (c .args .out .now) (c .lay .last .out) l (c .lay .ensures .laid);
+    }

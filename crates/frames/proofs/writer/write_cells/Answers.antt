@@ -23,14 +23,15 @@ loop-i-again g c =
     let h : i < length rs = omega arith in
     let most : w ≤ 16 = g .R·CellRow·met .most in
     elim (c .if-map-i-eq1 .came) [
-      then-map-i-eq1 y ↦
-        let r = y .index-cells-i .result in
-        relaid b m rs old (i + 1) (y .out-is) (y .at-is ∙ ap (λ n. at + n) (c .width-width .ensures))
+      | then-map-i-eq1 y ↦
+          let r = y .index-cells-i .result in
+          relaid b m rs old (i + 1) (y .out-is) (y .at-is ∙ ap (λ n. at + n) (c .width-width .ensures))
           (laid-up b m rs old (c .loop-i .out) (y .put-at .last .out) i at w r h (y .index-cells-i .is) (y .if-map-i-eq1 .taken) (omega arith) most (g .R·CellRow·met .wide r) (y .put-at .ensures) (c .loop-i .inv))
-    | else-map-i-eq1 y ↦
-        let s = some-at b rs i h in
-        relaid b m rs old (i + 1) (y .out-is) (y .at-is)
-          (laid-down b m rs old (c .loop-i .out) i at (s .0) h (s .1) (y .if-map-i-eq1 .left) (c .loop-i .inv)) ]
+      | else-map-i-eq1 y ↦
+          let s = some-at b rs i h in
+          relaid b m rs old (i + 1) (y .out-is) (y .at-is)
+          (laid-down b m rs old (c .loop-i .out) i at (s .0) h (s .1) (y .if-map-i-eq1 .left) (c .loop-i .inv))
+    ]
 
 pub returns : need.returns
 returns g c =

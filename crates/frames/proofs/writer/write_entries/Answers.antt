@@ -28,4 +28,5 @@ returns g c =
     let m : mapOf ps ≡ e .map = mapOf-places (g .R·CellRow .bytes) (e .map) (e .cells) small in
     record {
       size = ap (λ (n : ℕ). 8 + n) (c .write-cells .ensures .size) ∙ (let l = length-paged 7 (e .cycle) (e .page) (mapOf ps ∷ bodies ps) in omega arith);
-      laid = entries-laid (e .cycle) (e .page) (e .map) r ps old (c .copy-from-slice .last .self) (c .write-cells .last .out) m long made kept (c .write-cells .ensures .laid) }
+      laid = entries-laid (e .cycle) (e .page) (e .map) r ps old (c .copy-from-slice .last .self) (c .write-cells .last .out) m long made kept (c .write-cells .ensures .laid);
+    }

@@ -21,12 +21,13 @@ loop-i-again c =
     let i = c .loop-i .i in
     let now = string-bytes (c .loop-i .line) in
     elim (c .if-map-i-eq1 .came) [
-      then-map-i-eq1·in-Continue-write y ↦
-        let new = string-bytes (y .write .last .self) in
-        let told : new ≡ now ++ (codes " " ++ decimal (a + i)) = search needs in
-        subst (Held-told m a old (i + 1)) (ap string-bytes (sym (y .line-is))) (held-up m a old i now new (c .loop-i-test .taken) (y .if-map-i-eq1 .taken) told (c .loop-i .inv))
-    | else-map-i-eq1 y ↦
-        subst (Held-told m a old (i + 1)) (ap string-bytes (sym (y .line-is))) (held-down m a old i now (c .loop-i-test .taken) (y .if-map-i-eq1 .left) (c .loop-i .inv)) ]
+      | then-map-i-eq1·in-Continue-write y ↦
+          let new = string-bytes (y .write .last .self) in
+          let told : new ≡ now ++ (codes " " ++ decimal (a + i)) = search needs in
+          subst (Held-told m a old (i + 1)) (ap string-bytes (sym (y .line-is))) (held-up m a old i now new (c .loop-i-test .taken) (y .if-map-i-eq1 .taken) told (c .loop-i .inv))
+      | else-map-i-eq1 y ↦
+          subst (Held-told m a old (i + 1)) (ap string-bytes (sym (y .line-is))) (held-down m a old i now (c .loop-i-test .taken) (y .if-map-i-eq1 .left) (c .loop-i .inv))
+    ]
 
 pub returns : need.returns
 returns c = λ ok. held-all (c .args .map) (8 * c .args .page) (string-bytes (c .args .line .now)) (c .loop-i .i) (string-bytes (c .loop-i .line)) (omega arith) (c .loop-i .inv)

@@ -19,6 +19,6 @@ returns c =
     let sa : a .second < 2 ^ 32 = search needs in
     let sb : b .second < 2 ^ 32 = search needs in
     decides-like (c .equals .result)
-      (λ (e : a ≡ b). ap rowBytes (sym ea ∙ e ∙ eb))
-      (λ e. same-rows a b ma mb sa sb (ap rowBytes ea ∙ e ∙ ap rowBytes (sym eb)))
-      (c .equals .ensures)
+    (λ (e : a ≡ b). ap rowBytes (sym ea ∙ e ∙ eb))
+    (λ e. same-rows a b ma mb sa sb (ap rowBytes ea ∙ e ∙ ap rowBytes (sym eb)))
+    (c .equals .ensures)
