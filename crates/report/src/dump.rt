@@ -7,7 +7,7 @@ ghost use Rattle.std.specs.Vec.{made};
 ghost use Rattle.capture.specs.Steps.{ended};
 ghost use Rattle.report.specs.Reports.{heard, lineText};
 ghost use Rattle.report.specs.Tallies.{tallyText};
-ghost use Rattle.report.specs.Dumping.{byteRead, bytesRead, dumpOf, finished, lineEnded, started};
+ghost use Rattle.report.specs.Dumping.{EveryLineIsCounted, byteRead, bytesRead, dumpOf, finished, lineEnded, started};
 use crate::tally::Tally;
 use crate::text::CellText;
 use crate::told::push_line;
@@ -93,8 +93,8 @@ impl Dumper {
     }
 }
 
-// Reads the input to its end, and writes a line for each line of it, and a summary.
-pub fn dump<R: CellText, I: Read, W: Write>(
+// The input to its end.
+fn tell_all<R: CellText, I: Read, W: Write>(
     heap: Global,
     input: &mut I,
     output: &mut W,
@@ -109,4 +109,16 @@ pub fn dump<R: CellText, I: Read, W: Write>(
         dumper.bytes::<R, W>(&chunk[0..n], output)?;
     }
     dumper.finish::<R, W>(output)
+}
+
+// Reads the input to its end, and writes a line for each line of it, and a summary. Read so, each line of any
+// capture is counted once, by what it spells.
+pub fn dump<R: CellText, I: Read, W: Write>(
+    heap: Global,
+    input: &mut I,
+    output: &mut W,
+) -> Result<(), AnyError>
+    ensures { λ _. ⌜ EveryLineIsCounted (R·CellRow .width) (R·CellRow .reads) ⌝ }
+{
+    tell_all::<R, I, W>(heap, input, output)
 }
