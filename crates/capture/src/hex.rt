@@ -24,6 +24,17 @@ fn digit(c: u8) -> Option<Nibble>
     }
 }
 
+// A line without a character.
+fn empty() -> HexLine
+    ensures { λ r. ⌜ lineOf r ≡ blank ⌝ }
+{
+    HexLine {
+        bytes: [0; 136],
+        len: 0,
+        stage: Stage::Gap,
+    }
+}
+
 impl HexLine {
     // A line of which nothing has been read. Pushed a character after the other, every line gives its
     // datagram, or none where it has none.
@@ -31,11 +42,7 @@ impl HexLine {
         ensures begun { λ r. ⌜ lineOf r ≡ blank ⌝ }
         ensures every { λ _. ⌜ EveryLineIsRead ⌝ }
     {
-        HexLine {
-            bytes: [0; 136],
-            len: 0,
-            stage: Stage::Gap,
-        }
+        empty()
     }
 
     // One character of the line.

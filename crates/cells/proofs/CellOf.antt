@@ -4,12 +4,14 @@ use mathlib.Core.List.{List, _++_}
 use mathlib.Core.Bool.{Bool, true, false, cond}
 use Prim.Native.Nat.{ℕ}
 use native.Mathlib.Omega.{arith}
+use lib.Dec.{eqb}
+use Rattle.std.specs.declared.option.Option.the-variants.{Some, None}
 use Rattle.std.specs.declared.result.Result.{Result}
 use Rattle.std.specs.declared.result.Result.the-variants.{Ok, Err}
 use Rattle.cells.specs.declared.fault.Fault.{Fault}
 use lib.ListN.{length, take, drop}
 use Rattle.std.proofs.shelf.Lists.{take-at}
-use Rattle.std.proofs.shelf.Tests.{both-ways, cond-true}
+use Rattle.std.proofs.shelf.Tests.{both-ways, cond-true, eqb-true}
 use Rattle.cells.specs.Cells.{cellOf, CellWritten}
 use Rattle.cells.specs.Faults.{answered, notACell}
 
@@ -20,6 +22,14 @@ either false x y e = let z : _≡_ {A = ℕ} 0 1 = cc in absurd (omega arith)
 neither : (b : Bool) (x : List ℕ) (f : Fault) → Err f ≡ cond {A = Result (List ℕ) Fault} b (Ok x) (Err notACell) → (b ≡ false) × (f ≡ notACell)
 neither true x f e = let z : _≡_ {A = ℕ} 0 1 = cc in absurd (omega arith)
 neither false x f e = (refl, cc)
+
+some-if : {X : Type 0} (b : Bool) (x y : X) → Some x ≡ cond b (Some y) None → (b ≡ true) × (x ≡ y)
+some-if true x y e = (refl, cc)
+some-if false x y e = let z : _≡_ {A = ℕ} 0 1 = cc in absurd (omega arith)
+
+-- a row of bytes of a length
+pub sized-from-some : {X : Type 0} (n : ℕ) (bs : List ℕ) (x y : X) → Some x ≡ cond (eqb (length bs) n) (Some y) None → (length bs ≡ n) × (x ≡ y)
+sized-from-some n bs x y e = let p = some-if (eqb (length bs) n) x y e in (eqb-true (length bs) n (p .0), p .1)
 
 pub read-from-ok : (reads : List ℕ → Bool) (bs c : List ℕ) → Ok c ≡ cellOf reads bs → (reads bs ≡ true) × (c ≡ bs)
 read-from-ok reads bs c e = either (reads bs) bs c e

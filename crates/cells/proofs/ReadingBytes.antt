@@ -14,7 +14,6 @@ use Rattle.std.proofs.shelf.Lists.{take-append-drop, take-all, take-at, drop-at
 use Rattle.std.proofs.shelf.Signed.{ofZ-toZ, toZ-ofZ}
 use Rattle.std.proofs.shelf.Tests.{and-parts, and-from, cond-true, cond-false, cases-bool, leb-true, eq-eqb, eqb-true, lt-ltb, ltb-true}
 use Rattle.cells.specs.declared.reading.ReadingRow.{ReadingRow}
-use Rattle.std.specs.declared.option.Option.the-variants.{Some, None}
 use Rattle.std.specs.declared.result.Result.{Result}
 use Rattle.std.specs.declared.result.Result.the-variants.{Ok, Err}
 use Rattle.cells.specs.declared.fault.Fault.{Fault}
@@ -113,16 +112,6 @@ same-rows a b ma mb sa sb e = sym (row-at a ma sa) ∙ ap rowAt e ∙ row-at b m
 
 reads-nine : (bs : List ℕ) → length bs ≡ 9 → readingReads bs ≡ makes (rowAt bs)
 reads-nine bs l = ap (λ (b : Bool). b && makes (rowAt bs)) (eq-eqb (length bs) 9 l)
-
-pub nine-from-some : (bs : List ℕ) (row : ReadingRow) → Some row ≡ cond (eqb (length bs) 9) (Some (rowAt bs)) None → (length bs ≡ 9) × (row ≡ rowAt bs)
-nine-from-some bs row e =
-    ⊎-elim
-    (λ (l : eqb (length bs) 9 ≡ true). let f = cond-true (eqb (length bs) 9) (Some (rowAt bs)) None l in (eqb-true (length bs) 9 l, cc))
-    (λ (l : eqb (length bs) 9 ≡ false).
-    let f = cond-false (eqb (length bs) 9) (Some (rowAt bs)) None l in
-    let z : _≡_ {A = ℕ} 0 1 = cc in
-    absurd (omega arith))
-    (cases-bool (eqb (length bs) 9))
 
 -- what reading nine bytes gives, by what their numbers make
 pub nine-made : (bs : List ℕ) (row new : ReadingRow) → Bytes bs → length bs ≡ 9 → row ≡ rowAt bs → Ok new ≡ made row → answered readingBytes (Ok new) ≡ cellOf readingReads bs

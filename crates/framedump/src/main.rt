@@ -6,6 +6,8 @@ use cells::readings::ReadingKind;
 use report::dump::dump;
 use report::text::RawText;
 use report::text::ReadingText;
+ghost use Prim.Native.Nat.{ℕ};
+ghost use Rattle.framedump.specs.Kinds.{Named};
 use std::env;
 use std::error::AnyError;
 use std::io::BufWriter;
@@ -18,17 +20,21 @@ enum Kind {
     Reading,
 }
 
+fn kind_named(word: &str) -> Option<Kind>
+    ensures { λ r. ⌜ Named (now (word .entry)) r ⌝ }
+{
+    match word {
+        "raw" => Some(Kind::Raw),
+        "reading" => Some(Kind::Reading),
+        _ => None,
+    }
+}
+
 // The only argument names the kind.
 fn kind_of(rt: &LibcRuntime) -> Result<Option<Kind>, AnyError> {
     let mut args = env::args(rt)?.skip(1);
     let kind = match args.next() {
-        Some(word) => {
-            match word.as_str() {
-                "raw" => Some(Kind::Raw),
-                "reading" => Some(Kind::Reading),
-                _ => None,
-            }
-        }
+        Some(word) => kind_named(word.as_str()),
         None => None,
     };
     if args.next().is_some() {
