@@ -4,7 +4,7 @@ ghost use mathlib.Core.List.{List, _++_};
 ghost use mathlib.Core.Path.{_≡_};
 ghost use Prim.Native.Nat.{ℕ, _≤_};
 ghost use denote.Memory.{lone};
-ghost use lib.ListN.{drop, length, replicate, take};
+ghost use lib.ListN.{drop, length, take};
 ghost use prog.Memory.{align, size};
 ghost use Rattle.std.specs.Orderings.{Decides};
 ghost use Rattle.std.specs.declared.result.Result.the-variants.{Ok};
@@ -24,6 +24,9 @@ pub trait CellRow: Copy {
 
     // Whether bytes are those of a cell.
     ghost reads: { List ℕ → Bool };
+
+    // The bytes of the cell whose numbers are all 0.
+    ghost nought: { List ℕ };
 
     law least: { 1 ≤ width };
 
@@ -50,9 +53,9 @@ pub trait CellRow: Copy {
     fn width() -> usize
         ensures { λ r. ⌜ r ≡ width ⌝ };
 
-    // The row of the cell whose numbers, and so whose bytes, are all 0.
+    // A row of the cell whose numbers are all 0.
     fn zero() -> Self
-        ensures { λ r. ⌜ bytes r ≡ replicate width 0 ⌝ };
+        ensures { λ r. ⌜ bytes r ≡ nought ⌝ };
 
     // Writes the cell's bytes at the front of the buffer, and leaves the rest of it alone.
     fn put(self, out: &mut [u8; 16])

@@ -3,7 +3,7 @@ ghost use mathlib.Core.Bool.{cond};
 ghost use mathlib.Core.Path.{_≡_};
 ghost use Prim.Native.Nat.{ℕ};
 ghost use lib.Dec.{eqb};
-ghost use lib.ListN.{length};
+ghost use lib.ListN.{length, replicate};
 ghost use Rattle.std.specs.declared.option.Option.the-variants.{Some, None};
 ghost use Rattle.std.specs.Orderings.{Decides};
 ghost use Rattle.cells.specs.Raws.{rawAt, rawBytes, rawReads};
@@ -45,6 +45,8 @@ pub impl CellRow for RawBlock as RawKind {
     ghost bytes = { rawBytes };
 
     ghost reads = { rawReads };
+
+    ghost nought = { replicate 16 0 };
 
     fn width() -> usize {
         16

@@ -3,7 +3,7 @@ ghost use mathlib.Core.Bool.{cond};
 ghost use mathlib.Core.Path.{_≡_};
 ghost use Prim.Native.Nat.{ℕ};
 ghost use lib.Dec.{eqb};
-ghost use lib.ListN.{length};
+ghost use lib.ListN.{length, replicate};
 ghost use Rattle.std.specs.declared.option.Option.the-variants.{Some, None};
 ghost use Rattle.std.specs.Orderings.{Decides};
 ghost use Rattle.cells.specs.Faults.{answered, notACell};
@@ -126,6 +126,8 @@ pub impl CellRow for ReadingRow as ReadingKind {
     ghost bytes = { readingBytes };
 
     ghost reads = { readingReads };
+
+    ghost nought = { replicate 9 0 };
 
     fn width() -> usize {
         9

@@ -3,3 +3,4 @@ pub mod Texts
 pub mod Reports
 pub mod Tallies
 pub mod Dumping
+pub mod Kinds

@@ -5,8 +5,8 @@ use Prim.Native.Nat.{ℕ}
 use lib.Chars.{codes}
 use Rattle.std.specs.declared.option.Option.{Option}
 use Rattle.std.specs.declared.option.Option.the-variants.{Some, None}
-use Rattle.framedump.specs.declared.Kind.{Kind}
-use Rattle.framedump.specs.declared.Kind.the-variants.{Raw, Reading}
+use Rattle.report.specs.declared.cli.Kind.{Kind}
+use Rattle.report.specs.declared.cli.Kind.the-variants.{Raw, Reading}
 
 -- the kind that a word names, if any
 abbrev pub Named : List ℕ → Option Kind → Type 0
