@@ -5,7 +5,7 @@ Usage: expect.py check | expect.py write
 
 The tables reading.cases and raw.cases have a case a line: the captured line, what must be told of it, and
 why, with ' | ' between. In the first column backslash escapes stand for bytes that do not show. The middle
-column was filled in by hand. 'check' works every case out a second time, by the decoder below, which was
+column was written down with the case, and not copied from framedump's output. 'check' works every case out a second time, by the decoder below, which was
 written from docs/FORMATS.md and shares nothing with the crates, and complains where the two differ;
 'write' checks and then writes the standard input and the expected output of the programs that run the
 tables. The last line of each table is written without its line feed.
