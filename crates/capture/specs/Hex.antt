@@ -4,6 +4,7 @@ use mathlib.Core.List.{List, [], _∷_}
 use Prim.Native.Nat.{ℕ, _+_, _-_, _*_}
 use lib.Dec.{eqb, leb}
 use lib.ListN.{length}
+use Rattle.std.specs.Options.{mapped}
 use Rattle.std.specs.declared.option.Option.{Option}
 use Rattle.std.specs.declared.option.Option.the-variants.{Some, None}
 
@@ -22,8 +23,7 @@ pub data Due : Type 0 where
   any : Due
 
 abbrev pub before : ℕ → Option (List ℕ) → Option (List ℕ)
-before b None = None
-before b (Some bs) = Some (b ∷ bs)
+before b o = mapped (λ (bs : List ℕ). b ∷ bs) o
 
 -- a pair's first digit, and its second, with what the rest spells
 abbrev pub first : Option ℕ → (Due → Option (List ℕ)) → Option (List ℕ)

@@ -7,6 +7,7 @@ use native.Mathlib.Omega.{arith}
 use lib.ListN.{length, take, drop, getD, length-take, length-drop}
 use Rattle.std.specs.shelf.Digits.{Under, number, numberAfter}
 use Rattle.std.proofs.shelf.Digits.{number-push, number-lt}
+use Rattle.std.proofs.shelf.Elements.{all-append, all-drop, all-from-getD, all-take}
 use Rattle.std.proofs.shelf.Lists.{length-push, drop-more}
 use Rattle.cells.specs.Numbers.{Bytes, be, value, field}
 
@@ -15,14 +16,10 @@ unfolding be
 length-be zero n = refl
 length-be (suc k) n = length-push (be k (n / 256)) (n % 256) ∙ (let e = length-be k (n / 256) in omega arith)
 
-pub bytes-append : (xs ys : List ℕ) → Bytes xs → Bytes ys → Bytes (xs ++ ys)
-bytes-append [] ys h k = k
-bytes-append (x ∷ xs) ys h k = (h .0, bytes-append xs ys (h .1) k)
-
 pub bytes-be : (k n : ℕ) → Bytes (be k n)
 unfolding be
 bytes-be zero n = tt
-bytes-be (suc k) n = bytes-append (be k (n / 256)) (n % 256 ∷ []) (bytes-be k (n / 256)) (omega arith, tt)
+bytes-be (suc k) n = all-append (λ (b : ℕ). b < 256) (be k (n / 256)) (n % 256 ∷ []) (bytes-be k (n / 256)) (omega arith, tt)
 
 pub value-be : (k n : ℕ) → n < 256 ^ k → value (be k n) ≡ n
 unfolding be
@@ -54,27 +51,20 @@ be-value k bs l h =
 
 -- what is known of a slice, at each place
 pub bytes-from : (bs : List ℕ) → ((i : ℕ) → getD bs i 0 < 256) → Bytes bs
-bytes-from [] h = tt
-bytes-from (b ∷ bs) h = (h 0, bytes-from bs (λ i. h (suc i)))
+bytes-from bs h = all-from-getD (λ (b : ℕ). b < 256) bs 0 (λ i l. h i)
 
-bytes-take : (n : ℕ) (bs : List ℕ) → Bytes bs → Bytes (take n bs)
-bytes-take zero bs h = tt
-bytes-take (suc n) [] h = tt
-bytes-take (suc n) (b ∷ bs) h = (h .0, bytes-take n bs (h .1))
-
-bytes-drop : (n : ℕ) (bs : List ℕ) → Bytes bs → Bytes (drop n bs)
-bytes-drop zero bs h = h
-bytes-drop (suc n) [] h = h
-bytes-drop (suc n) (b ∷ bs) h = bytes-drop n bs (h .1)
+-- the bytes of a field are bytes
+bytes-field : (k at : ℕ) (bs : List ℕ) → Bytes bs → Bytes (take k (drop at bs))
+bytes-field k at bs h = all-take (λ (b : ℕ). b < 256) k (drop at bs) (all-drop (λ (b : ℕ). b < 256) at bs h)
 
 -- a field that is read is written again as the bytes that it lay in
 pub be-field : (k at : ℕ) (bs : List ℕ) → Bytes bs → at + k ≤ length bs → be k (field k at bs) ≡ take k (drop at bs)
-be-field k at bs h l = be-value k (take k (drop at bs)) (simp (length-take, length-drop) (omega arith)) (bytes-take k (drop at bs) (bytes-drop at bs h))
+be-field k at bs h l = be-value k (take k (drop at bs)) (simp (length-take, length-drop) (omega arith)) (bytes-field k at bs h)
 
 pub field-lt : (k at : ℕ) (bs : List ℕ) → Bytes bs → at + k ≤ length bs → field k at bs < 256 ^ k
 field-lt k at bs h l =
     let e : length (take k (drop at bs)) ≡ k = simp (length-take, length-drop) (omega arith) in
-    subst (λ (n : ℕ). field k at bs < 256 ^ n) e (number-lt 256 (take k (drop at bs)) (bytes-take k (drop at bs) (bytes-drop at bs h)))
+    subst (λ (n : ℕ). field k at bs < 256 ^ n) e (number-lt 256 (take k (drop at bs)) (bytes-field k at bs h))
 
 -- two, four and eight bytes, spelled out as the machine's own conversions give them
 pub be-two : (n : ℕ) → be 2 n ≡ (n / 256 % 256) ∷ (n % 256) ∷ []

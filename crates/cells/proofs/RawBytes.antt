@@ -4,14 +4,15 @@ use mathlib.Core.List.{List, [], _∷_, _++_}
 use mathlib.Core.Bool.{Bool, true}
 use Prim.Native.Nat.{ℕ, _+_, _^_, _<_, _≤_}
 use native.Mathlib.Omega.{arith}
-use lib.ListN.{length, take, drop, length-append, length-drop}
+use lib.ListN.{length, replicate, take, drop, length-append, length-drop}
 use Rattle.std.specs.Orderings.{Decides}
+use Rattle.std.proofs.shelf.Elements.{all-append}
 use Rattle.std.proofs.shelf.Lists.{take-append-drop, take-all, take-at, drop-at}
 use Rattle.std.proofs.shelf.Tests.{eq-eqb, eqb-true}
 use Rattle.cells.specs.declared.raw.RawBlock.{RawBlock}
 use Rattle.cells.specs.Numbers.{Bytes, be, value, field}
 use Rattle.cells.specs.Raws.{rawBytes, rawReads, rawAt}
-use Rattle.cells.proofs.BigEndian.{length-be, bytes-be, be-field, bytes-append, value-be}
+use Rattle.cells.proofs.BigEndian.{length-be, bytes-be, be-field, value-be}
 
 pub length-raw : (r : RawBlock) → length (rawBytes r) ≡ 16
 length-raw r =
@@ -20,7 +21,7 @@ length-raw r =
     simp length-append (omega arith)
 
 pub bytes-raw : (r : RawBlock) → Bytes (rawBytes r)
-bytes-raw r = bytes-append (be 8 (r .high)) (be 8 (r .low)) (bytes-be 8 (r .high)) (bytes-be 8 (r .low))
+bytes-raw r = all-append (λ (b : ℕ). b < 256) (be 8 (r .high)) (be 8 (r .low)) (bytes-be 8 (r .high)) (bytes-be 8 (r .low))
 
 -- sixteen bytes are those of the block that they write
 pub raw-back : (bs : List ℕ) → Bytes bs → length bs ≡ 16 → rawBytes (rawAt bs) ≡ bs
@@ -44,3 +45,7 @@ raw-at r h l =
 -- two blocks with the same bytes are the same
 pub same-raw : (a b : RawBlock) → a .high < 256 ^ 8 → a .low < 256 ^ 8 → b .high < 256 ^ 8 → b .low < 256 ^ 8 → rawBytes a ≡ rawBytes b → a ≡ b
 same-raw a b p q r s e = sym (raw-at a p q) ∙ ap rawAt e ∙ raw-at b r s
+
+pub raw-zero : rawBytes (record { high = 0; low = 0 }) ≡ replicate 16 0
+unfolding be
+raw-zero = refl

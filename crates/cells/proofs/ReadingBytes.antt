@@ -7,9 +7,10 @@ use Prim.Native.Nat.{ℕ, _+_, _^_, _<_, _≤_}
 use native.Mathlib.Omega.{arith}
 use lib.Dec.{eqb, leb, ltb}
 use lib.IntN.{ℤ, pos, negsuc}
-use lib.ListN.{length, take, drop, getD, length-append, length-drop}
+use lib.ListN.{length, replicate, take, drop, getD, length-append, length-drop}
 use mir.Syntax.{w32}
 use mir.Val.{ofZ, toZ, SFits}
+use Rattle.std.proofs.shelf.Elements.{all-append}
 use Rattle.std.proofs.shelf.Lists.{take-append-drop, take-all, take-at, drop-at, drop-more, drop-all, drop-drop, getD-drop, getD-at}
 use Rattle.std.proofs.shelf.Signed.{ofZ-toZ, toZ-ofZ}
 use Rattle.std.proofs.shelf.Tests.{and-parts, and-from, cond-true, cond-false, cases-bool, leb-true, eq-eqb, eqb-true, lt-ltb, ltb-true}
@@ -22,7 +23,7 @@ use Rattle.cells.specs.Faults.{answered, notACell}
 use Rattle.cells.specs.Levels.{inRange}
 use Rattle.cells.specs.Numbers.{Bytes, be, value, field}
 use Rattle.cells.specs.Readings.{made, makes, zeros, standing, rowBytes, readingBytes, rowAt, readingReads}
-use Rattle.cells.proofs.BigEndian.{length-be, bytes-be, bytes-append, be-field, field-lt, value-be}
+use Rattle.cells.proofs.BigEndian.{length-be, bytes-be, be-field, field-lt, value-be}
 
 -- what a row stands for makes a reading
 pub makes-standing : (r : ReadingRow) → makes (standing r) ≡ true
@@ -43,8 +44,8 @@ quality-small r e = ltb-true (r .quality) 4 (and-parts (inRange (r .level)) (ltb
 pub bytes-row : (r : ReadingRow) → makes r ≡ true → Bytes (rowBytes r)
 bytes-row r e =
     let q = quality-small r e in
-    bytes-append (be 4 (ofZ w32 (r .level))) (be 4 (r .second) ++ (r .quality ∷ [])) (bytes-be 4 (ofZ w32 (r .level)))
-    (bytes-append (be 4 (r .second)) (r .quality ∷ []) (bytes-be 4 (r .second)) (omega arith, tt))
+    all-append (λ (b : ℕ). b < 256) (be 4 (ofZ w32 (r .level))) (be 4 (r .second) ++ (r .quality ∷ [])) (bytes-be 4 (ofZ w32 (r .level)))
+    (all-append (λ (b : ℕ). b < 256) (be 4 (r .second)) (r .quality ∷ []) (bytes-be 4 (r .second)) (omega arith, tt))
 
 -- nine bytes are those of the row that they write
 pub row-back : (bs : List ℕ) → Bytes bs → length bs ≡ 9 → rowBytes (rowAt bs) ≡ bs
@@ -140,3 +141,7 @@ nine-refused bs row fault l e k =
     let t : readingReads bs ≡ false = reads-nine bs l ∙ ap makes (sym e) ∙ m in
     ap Err n ∙ sym (cond-false (readingReads bs) (Ok bs) (Err notACell) t))
     (cases-bool (makes row))
+
+pub reading-zero : readingBytes (record { level = pos 0; second = 0; quality = 0 }) ≡ replicate 9 0
+unfolding be
+reading-zero = refl

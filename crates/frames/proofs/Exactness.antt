@@ -9,6 +9,7 @@ use native.Mathlib.Omega.{arith}
 use lib.Count.{ones, ones-step}
 use lib.Dec.{eqb, leb, ltb}
 use lib.ListN.{length, take, drop, getD, length-take, length-drop}
+use Rattle.std.proofs.shelf.Elements.{all-getD}
 use Rattle.std.proofs.shelf.Lists.{append-nil, drop-more, drop-all, drop-drop, nil-from-length, take-append-drop}
 use Rattle.std.proofs.shelf.Tests.{cases-eq, cases-bool, and-parts, leb-true, ltb-true, eqb-true, cond-true, cond-false, cond-both}
 use Rattle.std.specs.declared.option.Option.the-variants.{Some, None}
@@ -26,10 +27,8 @@ use Rattle.frames.proofs.RoundTrip.{decoded-encoded}
 numbered-is : (c : ℕ) → numbered c ≡ true → Numbered c
 numbered-is c h = let p = and-parts (leb 1 c) (ltb c 4294967295) h in (leb-true 1 c (p .0), ltb-true c 4294967295 (p .1))
 
-getD-small : (bs : List ℕ) (i : ℕ) → Bytes bs → getD bs i 0 < 256
-getD-small [] i h = omega arith
-getD-small (b ∷ bs) zero h = h .0
-getD-small (b ∷ bs) (suc i) h = getD-small bs i (h .1)
+map-small : (bs : List ℕ) → Bytes bs → 8 ≤ length bs → getD bs 7 0 < 256
+map-small bs h l = all-getD (λ (b : ℕ). b < 256) bs 7 0 l h
 
 -- bytes that are cut and laid together again
 module _ (w : ℕ) where
@@ -140,7 +139,7 @@ module _ (w : ℕ) (reads : List ℕ → Bool) (bs : List ℕ) (small : Bytes bs
       let l = eqb-true (length bs) 8 le in
       let q = paged-is c p m e in
       let z : be 2 p ++ (m ∷ []) ≡ drop 5 bs = second (m ∷ []) (omega arith) (third [] (omega arith) (sym (drop-all 8 bs (omega arith)))) in
-      inl (held c p m, ((q .0, q .1, q .2, getD-small bs 7 small), first 19 (be 2 p ++ (m ∷ [])) k (omega arith) z))))
+      inl (held c p m, ((q .0, q .1, q .2, map-small bs small (omega arith)), first 19 (be 2 p ++ (m ∷ [])) k (omega arith) z))))
 
   shape-whole : getD bs 0 0 ≡ 1 → Parted (decodedWhole bs)
   unfolding Source Parted
@@ -164,8 +163,8 @@ module _ (w : ℕ) (reads : List ℕ → Bool) (bs : List ℕ) (small : Bytes bs
       let l = leb-true 8 (length bs) le in
       let a = and-parts good (paged c p m) e in
       let q = paged-is c p m (a .1) in
-      let u = whole-parted w 8 m (drop 8 bs) (getD-small bs 7 small) (eqb-true (length (drop 8 bs)) (ones m * w) (a .0)) in
-      let em : mapOf ps ≡ m = mapOf-parted w 8 m (drop 8 bs) (getD-small bs 7 small) in
+      let u = whole-parted w 8 m (drop 8 bs) (map-small bs small (omega arith)) (eqb-true (length (drop 8 bs)) (ones m * w) (a .0)) in
+      let em : mapOf ps ≡ m = mapOf-parted w 8 m (drop 8 bs) (map-small bs small (omega arith)) in
       let t : mapOf ps ∷ bodies ps ≡ drop 7 bs = ap (λ (n : ℕ). n ∷ bodies ps) em ∙ third (bodies ps) (omega arith) (u .1) in
       let z : be 2 p ++ (mapOf ps ∷ bodies ps) ≡ drop 5 bs = second (mapOf ps ∷ bodies ps) (omega arith) t in
       inl (

@@ -5,6 +5,7 @@ use mathlib.Core.Path.{_≡_}
 use Prim.Native.Nat.{ℕ, zero, suc, _+_, _*_, _/_, _%_}
 use lib.Chars.{codes}
 use lib.Dec.{eqb}
+use Rattle.std.specs.Options.{mapped}
 use Rattle.std.specs.Results.{Cases}
 use Rattle.std.specs.Written.{decimal}
 use Rattle.std.specs.declared.option.Option.{Option}
@@ -61,8 +62,7 @@ answerOutcome (Err e) = outcome.Refused
 
 -- the answer to a line of a capture, if it has a datagram
 abbrev pub heard : ℕ → (List ℕ → Bool) → Option (List ℕ) → Option (Result FrameMeaning Fault)
-heard w reads None = None
-heard w reads (Some bs) = Some (decoded w reads bs)
+heard w reads o = mapped (decoded w reads) o
 
 abbrev pub lineText : (List ℕ → List ℕ) → Option (Result FrameMeaning Fault) → List ℕ
 lineText text None = codes "?"

@@ -1,7 +1,5 @@
-use mathlib.Core.Path.{refl}
-use Rattle.cells.specs.Numbers.{be}
+use Rattle.cells.proofs.ReadingBytes.{reading-zero}
 use Rattle.cells.proofs.readings.ReadingKind.zero.Needs as need
 
 pub returns : need.returns
-unfolding be
-returns c = refl
+returns c = reading-zero
