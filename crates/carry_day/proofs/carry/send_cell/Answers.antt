@@ -9,21 +9,21 @@ use Rattle.carry_day.specs.Carried.{carrying, frame_of, sent_answer, sent_meanin
 use Rattle.carry_day.proofs.Sending.{front, made, one_bit, unmade}
 use Rattle.carry_day.proofs.carry.send_cell.Goals as goal
 
-pub returns-in-err-entries : goal.returns-in-err-entries
-returns-in-err-entries c =
+pub returns-in_err-entries : goal.returns-in_err-entries
+returns-in_err-entries c =
     let f = frame_of c.args.address c.args.cell in
-    let x = c.in-err-entries.field-0.0 in
-    let p = err_from_is_err_and c.from-residual.result c.from-residual.ensures.1 in
-    let e : f ≡ Err x = unmade (of_entries reading_bytes) c.new.result f x (c.new.ensures ∙ one_bit c.args.address c.args.cell) c.in-err-entries.was in
+    let x = c.in_err-entries.field-0.0 in
+    let p = err_from_is_err_and c.from_residual.result c.from_residual.ensures.1 in
+    let e : f ≡ Err x = unmade (of_entries reading_bytes) c.new.result f x (c.new.ensures ∙ one_bit c.args.address c.args.cell) c.in_err-entries.was in
     rw (p.1, p.2) record { answer = ap sent_answer (sym e); after = ap (λ (r : Result FrameMeaning Fault). sent_meaning r (carrying c.args.queue.now)) (sym e) }
 
 pub returns : goal.returns
 returns c =
     let f = frame_of c.args.address c.args.cell in
     let q = carrying c.args.queue.now in
-    let x = of_entries reading_bytes c.in-ok-entries.entries in
+    let x = of_entries reading_bytes c.in_ok-entries.entries in
     let n = c.write-n.result in
-    let e : f ≡ Ok x = made (of_entries reading_bytes) c.new.result f c.in-ok-entries.entries (c.new.ensures ∙ one_bit c.args.address c.args.cell) c.in-ok-entries.was in
+    let e : f ≡ Ok x = made (of_entries reading_bytes) c.new.result f c.in_ok-entries.entries (c.new.ensures ∙ one_bit c.args.address c.args.cell) c.in_ok-entries.was in
     let k : n - 0 ≡ length (encoded x) = (omega arith) ∙ c.write-n.ensures.size in
     let sent : take (n - 0) c.write-n.new.out ≡ encoded x = front x (drop n (replicate 136 0)) c.write-n.new.out (n - 0) k c.write-n.ensures.laid in
     record {

@@ -11,7 +11,7 @@ returns g c =
     let bs = c.args.bytes.now in
     let w = g.R.CellRow.width in
     let reads = g.R.CellRow.reads in
-    let each : (i : ℕ) → get_or bs i 0 < 256 = λ i. let f = c.type-inv.bytes i in search rules in
+    let each : (i : ℕ) → get_or bs i 0 < 256 = λ i. let f = c.type_inv.bytes i in search rules in
     let small : Bytes bs = bytes_from bs each in
     record {
       answer = c.parse.ensures;

@@ -4,20 +4,20 @@ use Rattle.cells.proofs.CellOf.{read_from_ok, unread_from_err}
 use Rattle.frames.specs.Format.{parted}
 use Rattle.frames.specs.Frames.{CellsOf}
 use Rattle.frames.proofs.Cutting.{Cutting, moved, room, cutting_up, cutting_down, cutting_stops, cutting_all}
-use Rattle.frames.proofs.reader.read_cells.Goals.{then-map-i-eq1+in-ok-cells, else-map-i-eq1}
+use Rattle.frames.proofs.reader.read_cells.Goals.{then-map-i-eq1+in_ok-cells, else-map-i-eq1}
 use Rattle.frames.proofs.reader.read_cells.Goals as goal
 
-pub get-at-requires : goal.get-at-requires
-get-at-requires g c = room g.R.CellRow.bytes g.R.CellRow.reads g.R.CellRow.width c.args.map c.args.bytes.now c.loop-i.cells c.loop-i.i c.loop-i.at c.if-map-i-eq1.true c.loop-i.invariant
+pub get_at-requires : goal.get_at-requires
+get_at-requires g c = room g.R.CellRow.bytes g.R.CellRow.reads g.R.CellRow.width c.args.map c.args.bytes.now c.loop-i.cells c.loop-i.i c.loop-i.at c.if-map-i-eq1.true c.loop-i.invariant
 
-pub returns-in-err-cells : goal.returns-in-err-cells
-returns-in-err-cells g c =
+pub returns-in_err-cells : goal.returns-in_err-cells
+returns-in_err-cells g c =
     let w = g.R.CellRow.width in
     let reads = g.R.CellRow.reads in
     let bs = c.args.bytes.now in
     let at = c.loop-i.at in
-    let p = err_from_is_err_and c.from-residual.result c.from-residual.ensures.1 in
-    let u = unread_from_err reads (take w (drop at bs)) c.in-err-cells.field-0.0 c.in-err-cells.ensures in
+    let p = err_from_is_err_and c.from_residual.result c.from_residual.ensures.1 in
+    let u = unread_from_err reads (take w (drop at bs)) c.in_err-cells.field-0.0 c.in_err-cells.ensures in
     let stop = cutting_stops g.R.CellRow.bytes reads w c.args.map bs c.loop-i.cells c.loop-i.i at c.loop-i-test.true c.if-map-i-eq1.true u.0 c.loop-i.invariant in
     subst (CellsOf g.R.CellRow.bytes reads c.args.map (parted w 8 c.args.map bs)) (sym p.1) (stop, p.2 ∙ u.1)
 
@@ -32,9 +32,9 @@ loop-i-preserved g c =
     let i = c.loop-i.i in
     let at = c.loop-i.at in
     elim c.if-map-i-eq1.branch [
-      | then-map-i-eq1+in-ok-cells y ↦
-          let cell = y.in-ok-cells.field-0 in
-          let r = read_from_ok reads (take w (drop at bs)) (bytes cell) y.in-ok-cells.ensures in
+      | then-map-i-eq1+in_ok-cells y ↦
+          let cell = y.in_ok-cells.field-0 in
+          let r = read_from_ok reads (take w (drop at bs)) (bytes cell) y.in_ok-cells.ensures in
           let v = cutting_up bytes reads w m bs rs i at cell c.loop-i-test.true y.if-map-i-eq1.true r.0 r.1 c.loop-i.invariant in
           moved bytes reads w m bs (i + 1) y.cells-is (y.at-is ∙ ap (λ n. at + n) c.width-width.ensures) v
       | else-map-i-eq1 y ↦

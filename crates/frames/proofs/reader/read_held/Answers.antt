@@ -9,9 +9,9 @@ pub returns-in-len8 : goal.returns-in-len8
 returns-in-len8 c =
     let bs = c.args.bytes.now in
     let l : length bs ≡ 8 = search rules in
-    let k : c.from-be-bytes-cycle.result ≡ field 4 1 bs = search rules in
-    let p : c.from-be-bytes-page.result ≡ field 2 5 bs = search rules in
+    let k : c.from_be_bytes-cycle.result ≡ field 4 1 bs = search rules in
+    let p : c.from_be_bytes-page.result ≡ field 2 5 bs = search rules in
     c.new.ensures
-    ∙ ap (λ (n : ℕ). held_of n c.from-be-bytes-page.result (get_or bs 7 0)) k
+    ∙ ap (λ (n : ℕ). held_of n c.from_be_bytes-page.result (get_or bs 7 0)) k
     ∙ ap (λ (n : ℕ). held_of (field 4 1 bs) n (get_or bs 7 0)) p
     ∙ sym (cond-true (eqb (length bs) 8) (held_of (field 4 1 bs) (field 2 5 bs) (get_or bs 7 0)) (Err not_a_frame) (eq-eqb (length bs) 8 l))

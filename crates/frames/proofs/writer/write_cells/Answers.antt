@@ -22,7 +22,7 @@ loop-i-preserved g c =
       | then-map-i-eq1 y ↦
           let r = y.index-cells-i.result in
           relaid b m rs old (i + 1) y.out-is (y.at-is ∙ ap (λ n. at + n) c.width-width.ensures)
-          (laid_up b m rs old c.loop-i.out y.put-at.new.out i at w r h y.index-cells-i.is y.if-map-i-eq1.true (omega arith) most (g.met.R.CellRow.wide r) y.put-at.ensures c.loop-i.invariant)
+          (laid_up b m rs old c.loop-i.out y.put_at.new.out i at w r h y.index-cells-i.is y.if-map-i-eq1.true (omega arith) most (g.met.R.CellRow.wide r) y.put_at.ensures c.loop-i.invariant)
       | else-map-i-eq1 y ↦
           let s = some_at b rs i h in
           relaid b m rs old (i + 1) y.out-is y.at-is

@@ -10,5 +10,5 @@ returns c =
     let h = c.args.held.now in
     let e = be_four h.cycle in
     let f = be_two h.page in
-    let made : c.copy-from-slice.new.self ≡ encoded (of_held h) = search rules in
-    record { size = sym (length-paged 19 h.cycle h.page (h.map ∷ [])); laid = fronted 8 c.args.out.now c.copy-from-slice.new.self (encoded (of_held h)) made }
+    let made : c.copy_from_slice.new.self ≡ encoded (of_held h) = search rules in
+    record { size = sym (length-paged 19 h.cycle h.page (h.map ∷ [])); laid = fronted 8 c.args.out.now c.copy_from_slice.new.self (encoded (of_held h)) made }

@@ -10,5 +10,5 @@ returns c =
     let m = c.args.marker.now in
     let e = be_four m.cycle in
     let f = be_two m.count in
-    let made : c.copy-from-slice.new.self ≡ encoded (of_marker m) = search rules in
-    record { size = sym (length-marker m.cycle m.count); laid = fronted 7 c.args.out.now c.copy-from-slice.new.self (encoded (of_marker m)) made }
+    let made : c.copy_from_slice.new.self ≡ encoded (of_marker m) = search rules in
+    record { size = sym (length-marker m.cycle m.count); laid = fronted 7 c.args.out.now c.copy_from_slice.new.self (encoded (of_marker m)) made }

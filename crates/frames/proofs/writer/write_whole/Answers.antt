@@ -9,5 +9,5 @@ pub returns : goal.returns
 returns c =
     let w = c.args.whole.now in
     let e = be_four w.cycle in
-    let made : c.copy-from-slice.new.self ≡ encoded (of_whole w) = search rules in
-    record { size = sym (length_whole w.cycle); laid = fronted 5 c.args.out.now c.copy-from-slice.new.self (encoded (of_whole w)) made }
+    let made : c.copy_from_slice.new.self ≡ encoded (of_whole w) = search rules in
+    record { size = sym (length_whole w.cycle); laid = fronted 5 c.args.out.now c.copy_from_slice.new.self (encoded (of_whole w)) made }

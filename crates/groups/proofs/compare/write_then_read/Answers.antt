@@ -4,12 +4,12 @@ use Rattle.groups.specs.Meaning.{GroupMeaning, read_answer}
 use Rattle.groups.proofs.AnyGroup.{back_refused, back_taken}
 use Rattle.groups.proofs.compare.write_then_read.Goals as goal
 
-pub returns-in-err-write : goal.returns-in-err-write
-returns-in-err-write g c =
+pub returns-in_err-write : goal.returns-in_err-write
+returns-in_err-write g c =
     let m = g.G.Group.meaning c.args.group.now in
-    let p = err_from_is_err_and c.from-residual.result c.from-residual.ensures.1 in
+    let p = err_from_is_err_and c.from_residual.result c.from_residual.ensures.1 in
     rw (p.1, p.2) record {
-      answer = back_refused m c.args.v c.args.b (g.R.CellRow.bytes c.args.cell) c.in-err-write.field-0.0 (sym c.write.ensures.answer ∙ c.in-err-write.was);
+      answer = back_refused m c.args.v c.args.b (g.R.CellRow.bytes c.args.cell) c.in_err-write.field-0.0 (sym c.write.ensures.answer ∙ c.in_err-write.was);
       after = c.write.ensures.after;
     }
 
@@ -23,6 +23,6 @@ returns g c =
       answer =
           c.read.ensures.answer
           ∙ ap (λ (n : GroupMeaning). read_answer n v b) c.write.ensures.after
-          ∙ back_taken m v b x c.in-ok-write.field-0 (g.G.Group.lawful c.args.group.now) (sym c.write.ensures.answer ∙ c.in-ok-write.was);
+          ∙ back_taken m v b x c.in_ok-write.field-0 (g.G.Group.lawful c.args.group.now) (sym c.write.ensures.answer ∙ c.in_ok-write.was);
       after = c.write.ensures.after;
     }

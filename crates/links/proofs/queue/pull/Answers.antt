@@ -15,7 +15,7 @@ returns c =
     let x = c.index-places-0.result in
     let e = sym (held_first ps n x (omega arith) c.requires.0 c.index-places-0.is) in
     record {
-      size = ap Some c.copy-to-n.ensures.size ∙ ap (λ (ws : List Datagram). length_of (first ws)) e;
-      laid = c.copy-to-n.ensures.laid ∙ ap (λ (ws : List Datagram). laid (first ws) c.args.buffer.now) e;
-      left = held_rest ps c.rotate-left.new.self _ n (omega arith) c.requires.0 (search rules);
+      size = ap Some c.copy_to-n.ensures.size ∙ ap (λ (ws : List Datagram). length_of (first ws)) e;
+      laid = c.copy_to-n.ensures.laid ∙ ap (λ (ws : List Datagram). laid (first ws) c.args.buffer.now) e;
+      left = held_rest ps c.rotate_left.new.self _ n (omega arith) c.requires.0 (search rules);
     }

@@ -1,7 +1,7 @@
 use Rattle.std.proofs.Common.{◌≡◌, ℕ, ◌+◌, ◌*◌, ◌<◌, List, ◌++◌, length, string_bytes, sym, ap, subst, arith, rules}
 use Rattle.report.specs.Reports.{entry_text}
 use Rattle.report.proofs.Telling.{EntriesTold, entries_none, entries_up, entries_down, entries_all}
-use Rattle.report.proofs.told.push_cells.Goals.{then-map-i-eq1+in-ok-push-entry, else-map-i-eq1}
+use Rattle.report.proofs.told.push_cells.Goals.{then-map-i-eq1+in_ok-push_entry, else-map-i-eq1}
 use Rattle.report.proofs.told.push_cells.Goals as goal
 
 pub loop-i-init : goal.loop-i-init
@@ -19,9 +19,9 @@ loop-i-preserved g c =
     let now = string_bytes c.loop-i.line in
     let h : i < length rs = omega arith in
     elim c.if-map-i-eq1.branch [
-      | then-map-i-eq1+in-ok-push-entry y ↦
+      | then-map-i-eq1+in_ok-push_entry y ↦
           let r = y.index-cells-i.result in
-          let new = string_bytes y.push-entry.new.line in
+          let new = string_bytes y.push_entry.new.line in
           let told : new ≡ now ++ entry_text text (a + i) (bytes r) = search rules in
           subst (EntriesTold bytes text m rs a old (i + 1)) (ap string_bytes (sym y.line-is)) (entries_up bytes text m rs a old i r now new h y.index-cells-i.is y.if-map-i-eq1.true told c.loop-i.invariant)
       | else-map-i-eq1 y ↦

@@ -11,4 +11,4 @@ returns g c =
     let mid = string_bytes c.write.new.self in
     let head = head_text (codes "entries ") e.cycle e.page in
     let first : mid ≡ old ++ head = search rules in
-    λ ok. told_then old mid (string_bytes c.push-cells.new.line) head (entries_text g.R.CellText.text (8 * e.page) (places g.R.CellRow.bytes e.map e.cells)) first (c.push-cells.ensures ok)
+    λ ok. told_then old mid (string_bytes c.push_cells.new.line) head (entries_text g.R.CellText.text (8 * e.page) (places g.R.CellRow.bytes e.map e.cells)) first (c.push_cells.ensures ok)

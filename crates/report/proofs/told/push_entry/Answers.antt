@@ -8,4 +8,4 @@ returns g c =
     let mid = string_bytes c.write.new.self in
     let a = c.args.address in
     let first : mid ≡ old ++ (codes " " ++ (decimal a ++ codes "=")) = search rules in
-    λ ok. entry_told g.R.CellText.text a (g.R.CellRow.bytes c.args.cell) old mid (string_bytes c.push-text.new.line) first (c.push-text.ensures ok)
+    λ ok. entry_told g.R.CellText.text a (g.R.CellRow.bytes c.args.cell) old mid (string_bytes c.push_text.new.line) first (c.push_text.ensures ok)

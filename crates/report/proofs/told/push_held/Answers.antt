@@ -10,4 +10,4 @@ returns g c =
     let mid = string_bytes c.write.new.self in
     let head = head_text (codes "held ") h.cycle h.page in
     let first : mid ≡ old ++ head = search rules in
-    λ ok. told_then old mid (string_bytes c.push-addresses.new.line) head (held_text 8 (8 * h.page) h.map) first (c.push-addresses.ensures ok)
+    λ ok. told_then old mid (string_bytes c.push_addresses.new.line) head (held_text 8 (8 * h.page) h.map) first (c.push_addresses.ensures ok)

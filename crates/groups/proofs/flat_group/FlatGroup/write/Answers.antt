@@ -6,17 +6,17 @@ use Rattle.groups.proofs.RowCalls.{flat_written, rows_laid, rows_left}
 use Rattle.groups.proofs.TableCalls.{refused, taken, write_answered}
 use Rattle.groups.proofs.flat_group.FlatGroup.write.Goals as goal
 
-pub returns-in-err-a : goal.returns-in-err-a
-returns-in-err-a g c =
+pub returns-in_err-a : goal.returns-in_err-a
+returns-in_err-a g c =
     let s = c.args.self.now in
     let R = g.R.CellRow in
     let t = s.table in
     let v = c.args.v in
     let b = c.args.b in
     let cs = cells_of R.bytes (t.volumes * t.blocks) s.rows.now in
-    let p = err_from_is_err_and c.from-residual.result c.from-residual.ensures.1 in
-    let was = c.in-err-a.was in
-    let left = rows_left R.bytes t s.rows.now v b c.args.cell (refused t v b c.in-err-a.field-0.0 (sym c.admit.ensures.answer ∙ was)) in
+    let p = err_from_is_err_and c.from_residual.result c.from_residual.ensures.1 in
+    let was = c.in_err-a.was in
+    let left = rows_left R.bytes t s.rows.now v b c.args.cell (refused t v b c.in_err-a.field-0.0 (sym c.admit.ensures.answer ∙ was)) in
     rw (p.1, p.2) record {
       answer = ap (answered (λ _. tt)) (sym was ∙ c.admit.ensures.answer) ∙ write_answered t v b cs;
       after = flat_written R.bytes t c.admit.new.self s.rows.now s.rows.now v b c.args.cell c.admit.ensures.after left;
@@ -32,9 +32,9 @@ returns g c =
     let t = s.table in
     let v = c.args.v in
     let b = c.args.b in
-    let a = c.in-ok-a.a in
+    let a = c.in_ok-a.a in
     let cs = cells_of R.bytes (t.volumes * t.blocks) s.rows.now in
-    let was = c.in-ok-a.was in
+    let was = c.in_ok-a.was in
     let laid = rows_laid R.bytes t s.rows.now v b a c.args.cell (taken t v b a (sym c.admit.ensures.answer ∙ was)) in
     record {
       answer = ap (answered (λ _. tt)) (sym was ∙ c.admit.ensures.answer) ∙ write_answered t v b cs;

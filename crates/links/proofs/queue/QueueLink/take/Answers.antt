@@ -17,5 +17,5 @@ returns c =
     record {
       answer = simp (test, c.pull-taken.ensures.size, same);
       buffer = simp (test, c.pull-taken.ensures.laid, same);
-      after = after_take (length ps) (length c.pull-taken.new.places) c.pull-taken.auto.places (held ps q.used) (held c.pull-taken.new.places c.saturating-sub-self.result) (drop q.next q.fates.now) b wide (ap (held c.pull-taken.new.places) c.saturating-sub-self.ensures ∙ c.pull-taken.ensures.left ∙ ap rest same);
+      after = after_take (length ps) (length c.pull-taken.new.places) c.pull-taken.auto.places (held ps q.used) (held c.pull-taken.new.places c.saturating_sub-self.result) (drop q.next q.fates.now) b wide (ap (held c.pull-taken.new.places) c.saturating_sub-self.ensures ∙ c.pull-taken.ensures.left ∙ ap rest same);
     }

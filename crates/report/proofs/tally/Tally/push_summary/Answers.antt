@@ -10,6 +10,6 @@ returns c =
     let old = string_bytes c.args.line.now in
     let mid = string_bytes c.write.new.self in
     let new = string_bytes c.write-2.new.self in
-    let first : mid ≡ old ++ frames_text t = c.in-ok-write.ensures.bytes in
+    let first : mid ≡ old ++ frames_text t = c.in_ok-write.ensures.bytes in
     let second : Appended c.write-2.result mid (rest_text t) new = search rules in
     λ ok. told_then old mid new (frames_text t) (rest_text t) first (second ok)
