@@ -11,11 +11,11 @@ pub fn exchange<L: Link>(
     datagram: &[u8],
     buffer: &mut [u8],
 ) -> Result<Option<usize>, Fault>
-    ensures answer { result ≡ exchange_answer datagram.now buffer.old (meaning link.old) }
-    ensures buffer { buffer.new ≡ exchange_buffer datagram.now buffer.old (meaning link.old) }
-    ensures after { meaning link.new ≡ exchange_meaning datagram.now buffer.old (meaning link.old) }
-    ensures own { Own datagram.now buffer.old (meaning link.old) buffer.new result }
-    ensures ever { Ever datagram.now (meaning link.old) (meaning link.new) }
+    ensures answer { result ≡ exchange_answer datagram.now buffer.old (L.Link.meaning link.old) }
+    ensures buffer { buffer.new ≡ exchange_buffer datagram.now buffer.old (L.Link.meaning link.old) }
+    ensures after { L.Link.meaning link.new ≡ exchange_meaning datagram.now buffer.old (L.Link.meaning link.old) }
+    ensures own { Own datagram.now buffer.old (L.Link.meaning link.old) buffer.new result }
+    ensures ever { Ever datagram.now (L.Link.meaning link.old) (L.Link.meaning link.new) }
 {
     link.send(datagram)?;
     link.take(buffer)

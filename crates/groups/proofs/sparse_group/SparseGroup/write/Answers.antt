@@ -8,11 +8,15 @@ use Rattle.groups.proofs.RecordCells.{placed, records_laid, records_left, single
 use Rattle.groups.proofs.TableCalls.{ready_still, refused, taken, write_answered}
 use Rattle.groups.proofs.sparse_group.SparseGroup.write.Goals as goal
 
-pub invariant-of-self : goal.invariant-of-self
-invariant-of-self g c =
+pub invariant_of-self : goal.invariant_of-self
+invariant_of-self g c =
     let s = c.args.self.now in
     let t = s.table in
-    subst (λ (u : VolumeTable). Ready u × ((u.volumes * u.blocks < length s.records.now) × (Single u s.records.now s.used × Unit {0}))) (sym c.admit.ensures.after) (ready_still t c.args.v (admits t c.args.v c.args.b) counted s.ready, (s.fits, (s.single, tt)))
+    record {
+      ready = subst Ready (sym c.admit.ensures.after) (ready_still t c.args.v (admits t c.args.v c.args.b) counted s.ready);
+      fits = subst (λ (u : VolumeTable). u.volumes * u.blocks < length s.records.now) (sym c.admit.ensures.after) s.fits;
+      single = subst (λ (u : VolumeTable). Single u s.records.now s.used) (sym c.admit.ensures.after) s.single;
+    }
 
 pub returns-in_err-a : goal.returns-in_err-a
 returns-in_err-a g c =
@@ -35,8 +39,8 @@ returns-in_err-a g c =
       lender = refl;
     }
 
-pub overflow-cast-self : goal.overflow-cast-self
-overflow-cast-self g c =
+pub overflow_cast-self : goal.overflow_cast-self
+overflow_cast-self g c =
     let s = c.args.self.now in
     let e = taken s.table c.args.v c.args.b c.in_ok-a.a (sym c.admit.ensures.answer ∙ c.in_ok-a.was) in
     let h = small g.R.CellRow.bytes s.table s.records.now s.used c.args.v c.args.b c.args.cell s.ready s.single s.fits c.in_ok-a.a e in
@@ -48,11 +52,11 @@ bounds-self-i g c =
     let e = taken s.table c.args.v c.args.b c.in_ok-a.a (sym c.admit.ensures.answer ∙ c.in_ok-a.was) in
     placed g.R.CellRow.bytes s.table s.records.now s.used c.args.v c.args.b c.args.cell s.ready s.single s.fits c.in_ok-a.a e c.place-i.result c.place-i.ensures
 
-pub offset-bounds-self-i : goal.offset-bounds-self-i
-offset-bounds-self-i g c = let h = bounds-self-i g c in search rules
+pub offset_bounds-self-i : goal.offset_bounds-self-i
+offset_bounds-self-i g c = let h = bounds-self-i g c in search rules
 
-pub invariant-of-self-2 : goal.invariant-of-self-2
-invariant-of-self-2 g c =
+pub invariant_of-self-2 : goal.invariant_of-self-2
+invariant_of-self-2 g c =
     let s = c.args.self.now in
     let t = s.table in
     let a = c.in_ok-a.a in
@@ -61,7 +65,11 @@ invariant-of-self-2 g c =
     let e = taken t c.args.v c.args.b a (sym c.admit.ensures.answer ∙ c.in_ok-a.was) in
     let single = single_after g.R.CellRow.bytes t s.records.now s.used c.args.v c.args.b c.args.cell s.ready s.single s.fits a e i c.max-self.result c.place-i.ensures c.max-self.ensures in
     let fits : t.volumes * t.blocks < length put = subst (λ (k : ℕ). t.volumes * t.blocks < k) (sym (length-set s.records.now i (record { address = a; cell = c.args.cell }))) s.fits in
-    subst (λ (u : VolumeTable). Ready u × ((u.volumes * u.blocks < length put) × (Single u put c.max-self.result × Unit {0}))) (sym c.admit.ensures.after) (ready_still t c.args.v (admits t c.args.v c.args.b) counted s.ready, (fits, (single, tt)))
+    record {
+      ready = subst Ready (sym c.admit.ensures.after) (ready_still t c.args.v (admits t c.args.v c.args.b) counted s.ready);
+      fits = subst (λ (u : VolumeTable). u.volumes * u.blocks < length put) (sym c.admit.ensures.after) fits;
+      single = subst (λ (u : VolumeTable). Single u put c.max-self.result) (sym c.admit.ensures.after) single;
+    }
 
 pub returns : goal.returns
 returns g c =
