@@ -1,9 +1,9 @@
 -- A line read a character at a time gives what the whole line spells. Assumes nothing.
-use Rattle.std.proofs.Common.{◌≡◌, ℕ, suc, ◌+◌, ◌*◌, ◌<◌, ◌≤◌, Bool, true, false, cond, eqb, ltb, leb, List, [], ◌∷◌, ◌++◌, length, take, set, Some, None, Option, sym, refl, ap, ◌∙◌, ⊎_elim, arith, length-append, length-take}
+use Rattle.std.proofs.Common.{◌≡◌, ℕ, ◌+◌, ◌*◌, ◌<◌, ◌≤◌, Bool, true, false, cond, eqb, ltb, leb, List, [], ◌∷◌, ◌++◌, length, take, set, Some, None, Option, sym, refl, ap, ◌∙◌, ⊎_elim, arith, length-append, length-take}
 use Rattle.std.proofs.lemmas.List.{append-nil, append_assoc, length_push, take_more_set}
 use Rattle.std.proofs.lemmas.Bool.{cases_lt, cond-true, cond-false, le-leb, lt-leb, lt-ltb, le-ltb}
-use Rattle.capture.specs.Hex.{Due, pair, second, any, digit_of, before, first, paired, spelled, fitting, datagram_of}
-use Rattle.capture.specs.Steps.{LineMeaning, line, blank, joined, opened, closed, pushed_at, pushed, ended_at, ended, read, EveryLineIsRead}
+use Rattle.capture.specs.Hex.{Due, pair, second, any, digit_of, before, first, paired, spelled, fitting}
+use Rattle.capture.specs.Steps.{LineMeaning, line, joined, opened, closed, ended, read, EveryLineIsRead}
 
 -- the byte of a pair, laid behind the others
 pub byte_joined : (bs : List ℕ) (n b : ℕ) → length bs ≡ 136 → n < 136 → line (Some any) (take (n + 1) (set bs n b)) ≡ joined (take n bs) b

@@ -1,5 +1,5 @@
 -- Reading a line a character at a time. Assumes nothing.
-use Rattle.std.specs.Prelude.{◌≡◌, ℕ, ◌+◌, ◌*◌, Bool, cond, List, [], ◌∷◌, ◌++◌, length, take, Some, None, Option, ◌==◌, nat_lt}
+use Rattle.std.specs.Prelude.{◌≡◌, ℕ, ◌+◌, ◌*◌, cond, List, [], ◌∷◌, ◌++◌, length, take, Some, None, Option, ◌==◌, nat_lt}
 use Rattle.capture.specs.declared.line.Nibble.{Nibble}
 use Rattle.capture.specs.declared.line.Stage.{Stage}
 use Rattle.capture.specs.declared.line.Stage.TheVariants.{Gap, Half, Joint, Broken}

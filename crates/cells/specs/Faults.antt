@@ -1,5 +1,5 @@
 -- Refusals by number, and how a fault gains its place on the way up. Assumes nothing.
-use Rattle.std.specs.Prelude.{ℕ, Some, None, Ok, Err, Option, Result}
+use Rattle.std.specs.Prelude.{ℕ, Some, None, Ok, Err, Result}
 use Rattle.cells.specs.declared.fault.Refusal.{Refusal}
 use Rattle.cells.specs.declared.fault.Refusal.TheVariants.{NoSuchPlace, WrongShape, ShortMemory, NumberOutOfRange, GroupsDiffer, ReadOnly, NotSending, StillSending, TakenOver, StillFollowing, Torn, NotAFrame, NotACell, WrongDirection, CycleAhead, SetMismatch}
 use Rattle.cells.specs.declared.fault.Layer.{Layer}

@@ -1,12 +1,11 @@
 -- The sixteen bytes of a raw block. Assumes nothing.
-use Rattle.std.specs.Prelude.{◌≡◌, ℕ, ◌+◌, ◌^◌, ◌<◌, ◌≤◌, Bool, true, List, [], ◌∷◌, ◌++◌, length, take, drop, replicate, Decides, refl}
+use Rattle.std.specs.Prelude.{◌≡◌, ℕ, ◌^◌, ◌<◌, List, length, take, drop, replicate, refl}
 use Rattle.std.proofs.Common.{sym, ap, ◌∙◌, arith, length-append, length-drop}
 use Rattle.std.proofs.ByRecursion.{All-append}
 use Rattle.std.proofs.lemmas.List.{take-append-drop, take_all, take_at, drop_at}
-use Rattle.std.proofs.lemmas.Bool.{eq-eqb, eqb-true}
 use Rattle.cells.specs.declared.raw.RawBlock.{RawBlock}
 use Rattle.cells.specs.Numbers.{Bytes, be, value, field}
-use Rattle.cells.specs.Raws.{raw_bytes, raw_reads, raw_at}
+use Rattle.cells.specs.Raws.{raw_bytes, raw_at}
 use Rattle.cells.specs.BigEndian.{length-be, bytes-be, be-field, value-be}
 
 pub length-raw : (r : RawBlock) → length (raw_bytes r) ≡ 16

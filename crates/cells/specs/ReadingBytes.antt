@@ -1,11 +1,11 @@
 -- The nine bytes of a reading. Assumes nothing.
-use Rattle.std.specs.Prelude.{◌≡◌, ℕ, ◌+◌, ◌^◌, ◌<◌, ◌≤◌, Bool, true, false, cond, ◌&&◌, List, [], ◌∷◌, ◌++◌, length, take, drop, replicate, ℤ, pos, negsuc, Ok, Err, Result, FitsSigned, nat_le, nat_lt, slice_index, slice_index_or, refl}
-use Rattle.std.proofs.Common.{sym, ap, ◌∙◌, ⊎_elim, arith, length-append, length-drop, of_z, to_z}
+use Rattle.std.specs.Prelude.{◌≡◌, ℕ, ◌^◌, ◌<◌, Bool, true, false, cond, ◌&&◌, List, [], ◌∷◌, ◌++◌, length, take, drop, replicate, ℤ, pos, negsuc, Ok, Err, FitsSigned, nat_le, nat_lt, slice_index, slice_index_or, refl}
+use Rattle.std.proofs.Common.{sym, ap, ◌∙◌, ⊎_elim, arith, length-append, of_z, to_z}
 use Rattle.std.specs.Int.{w32}
 use Rattle.std.proofs.ByRecursion.{All-append}
-use Rattle.std.proofs.lemmas.List.{take-append-drop, take_all, take_at, drop_at, drop_more, drop_all, drop-drop, get_or-drop, get_or_at}
+use Rattle.std.proofs.lemmas.List.{take-append-drop, take_at, drop_at, drop_more, drop_all, drop-drop, get_or-drop, get_or_at}
 use Rattle.std.proofs.lemmas.Int.{of_z-to_z, to_z-of_z}
-use Rattle.std.proofs.lemmas.Bool.{and_parts, and_from, cond-true, cond-false, cases_Bool, leb-true, eq-eqb, eqb-true, lt-ltb, ltb-true}
+use Rattle.std.proofs.lemmas.Bool.{and_parts, cond-true, cond-false, cases_Bool, leb-true, eq-eqb, ltb-true}
 use Rattle.cells.specs.declared.reading.ReadingRow.{ReadingRow}
 use Rattle.cells.specs.declared.fault.Fault.{Fault}
 use Rattle.cells.specs.Cells.{cell_of}

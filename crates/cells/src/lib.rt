@@ -1,4 +1,6 @@
 // Cells and faults: what every other layer builds on.
+#![tactic(auto)]
+
 pub mod cell;
 pub mod fault;
 pub mod raw;

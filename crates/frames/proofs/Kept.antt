@@ -1,5 +1,5 @@
 -- Every frame that the program can hold is one that there is, with cells that its kind reads. Assumes nothing.
-use Rattle.std.proofs.Common.{◌≡◌, ℕ, ◌+◌, ◌*◌, ◌^◌, ◌<◌, ◌≤◌, Bool, true, false, cond, List, [], ◌∷◌, ◌++◌, length, take, drop, Ok, Err, Result, sym, refl, ap, ◌∙◌, subst, arith}
+use Rattle.std.proofs.Common.{◌≡◌, ℕ, ◌*◌, ◌^◌, ◌<◌, ◌≤◌, Bool, true, List, [], ◌∷◌, ◌++◌, length, take, drop, Ok, Err, Result, sym, refl, ap, ◌∙◌, subst, arith}
 use lib.Count.{ones, ones-le}
 use Rattle.std.proofs.lemmas.Nat.{mul-le}
 use Rattle.std.proofs.lemmas.List.{take_at}
@@ -10,7 +10,7 @@ use Rattle.cells.specs.Numbers.{Bytes}
 use Rattle.frames.specs.declared.frame.Entries.{Entries}
 use Rattle.frames.specs.declared.frame.Frame.{Frame}
 use Rattle.frames.specs.declared.frame.Frame.TheVariants as variant
-use Rattle.frames.specs.Meaning.{FrameMeaning, encoded, map_of, bodies, Formed, cells_read}
+use Rattle.frames.specs.Meaning.{encoded, map_of, bodies, Formed, cells_read}
 use Rattle.frames.specs.Format.{decoded, Exact}
 use Rattle.frames.specs.Frames.{places, meaning, Written}
 use Rattle.frames.proofs.Places.{length-places, map_of-places, read_places, wide-places}

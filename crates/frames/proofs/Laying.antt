@@ -1,10 +1,10 @@
 -- Frames laid into a buffer. Assumes nothing.
-use Rattle.std.proofs.Common.{◌≡◌, ℕ, zero, suc, ◌+◌, ◌*◌, ◌/◌, ◌%◌, ◌^◌, ◌<◌, ◌≤◌, min, Bool, true, false, cond, List, [], ◌∷◌, ◌++◌, length, get_or, take, drop, Some, None, Option, sym, refl, ap, ◌∙◌, subst, div-one, arith, length-append, length-drop, length-take}
+use Rattle.std.proofs.Common.{◌≡◌, ℕ, ◌+◌, ◌*◌, ◌/◌, ◌%◌, ◌^◌, ◌<◌, ◌≤◌, List, [], ◌∷◌, ◌++◌, length, get_or, take, drop, Some, None, Option, sym, refl, ap, ◌∙◌, subst, div-one, arith, length-append, length-drop, length-take}
 use borrow.Rule.Slice.PartMut.{put_mid}
 use Rattle.std.proofs.lemmas.List.{append_assoc, append-nil, drop_all, drop-drop, drop_at, take_all, take_at, take-append-drop}
 use Rattle.cells.specs.Numbers.{be}
 use Rattle.cells.specs.BigEndian.{length-be}
-use Rattle.frames.specs.Meaning.{FrameMeaning, Places, entries, marker, held, whole, encoded, map_of, bodies}
+use Rattle.frames.specs.Meaning.{Places, entries, marker, whole, encoded, map_of, bodies}
 use Rattle.frames.specs.Frames.{place, places}
 use Rattle.frames.proofs.Places.{place_up, place_down, places_step}
 

@@ -1,5 +1,5 @@
 -- What is written is read. Assumes nothing.
-use Rattle.std.proofs.Common.{◌≡◌, ℕ, zero, suc, ◌+◌, ◌*◌, ◌/◌, ◌%◌, ◌^◌, ◌<◌, ◌≤◌, Bool, true, false, cond, ◌&&◌, eqb, ltb, leb, List, [], ◌∷◌, ◌++◌, length, get_or, take, drop, Some, None, Ok, Err, Option, Result, sym, refl, ap, ◌∙◌, subst, add-mul, one-mul, zero-mul, arith, length-append}
+use Rattle.std.proofs.Common.{◌≡◌, ℕ, ◌+◌, ◌*◌, ◌/◌, ◌%◌, ◌<◌, ◌≤◌, Bool, true, cond, ◌&&◌, eqb, ltb, leb, List, [], ◌∷◌, ◌++◌, length, get_or, take, drop, Some, None, Ok, Err, Result, sym, refl, ap, ◌∙◌, add-mul, one-mul, zero-mul, arith, length-append}
 use lib.Count.{ones, ones_step}
 use Rattle.std.proofs.lemmas.List.{append-nil, take_at, drop_at, drop-drop, get_or-drop}
 use Rattle.std.proofs.lemmas.Bool.{and_from, le-leb, lt-ltb, eq-eqb, cond-true}
@@ -8,7 +8,7 @@ use Rattle.cells.specs.Faults.{not_a_frame, not_a_cell}
 use Rattle.cells.specs.Numbers.{be, value, field}
 use Rattle.cells.specs.BigEndian.{length-be, value-be}
 use Rattle.frames.specs.Meaning.{FrameMeaning, Places, entries, marker, held, whole, encoded, map_of, bodies, Numbered, Wide, Formed, all_read, cells_read}
-use Rattle.frames.specs.Format.{parted, numbered, paged, marker_of, held_of, whole_of, entries_in, decoded_entries, decoded_marker, decoded_held, decoded_whole, decoded}
+use Rattle.frames.specs.Format.{parted, numbered, paged, marker_of, held_of, whole_of, entries_in, decoded}
 use Rattle.frames.proofs.Cutting.{parted_up, parted_down}
 use Rattle.frames.proofs.Laying.{length-marker, length-paged, length_whole}
 

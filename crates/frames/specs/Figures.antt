@@ -1,5 +1,5 @@
 -- Worked figures of cells and frames. Assumes nothing.
-use Rattle.std.specs.Prelude.{◌≡◌, ℕ, ◌/◌, ◌%◌, Bool, List, [], ◌∷◌, ◌++◌, replicate, pos, negsuc, Some, None, Ok, Err, slice_set}
+use Rattle.std.specs.Prelude.{◌≡◌, ℕ, ◌/◌, ◌%◌, Bool, List, [], ◌∷◌, replicate, pos, negsuc, Some, None, Ok, Err, slice_set}
 use Rattle.cells.specs.declared.reading.Quality.TheVariants.{Good}
 use Rattle.cells.specs.declared.reading.ReadingRow.{ReadingRow}
 use Rattle.cells.specs.Cells.{cell_of}

@@ -1,4 +1,6 @@
 // Frames, written into bytes and read from them, over any kind of cell.
+#![tactic(auto)]
+
 pub mod figures;
 pub mod frame;
 pub mod make;

@@ -1,5 +1,5 @@
 -- What holds of any group, by its meaning. Assumes nothing.
-use Rattle.std.proofs.Common.{◌≡◌, ℕ, ◌+◌, ◌*◌, ◌/◌, ◌%◌, ◌<◌, ◌≤◌, Bool, true, false, cond, ◌&&◌, ltb, List, [], ◌∷◌, length, get_or, take, set, Some, Ok, Err, Decides, Result, sym, refl, ap, ◌∙◌, subst, mod-lt, arith, length-set, get_or-set_same, lt-ltb}
+use Rattle.std.proofs.Common.{◌≡◌, ℕ, ◌+◌, ◌*◌, ◌/◌, ◌%◌, ◌<◌, ◌≤◌, Bool, true, false, cond, ltb, List, [], length, get_or, take, set, Some, Ok, Err, Decides, Result, sym, refl, ap, ◌∙◌, subst, mod-lt, arith, length-set, get_or-set_same, lt-ltb}
 use Rattle.std.proofs.lemmas.Nat.{div-add-mod', div_below}
 use Rattle.std.proofs.lemmas.List.{take_all, take_more_same}
 use Rattle.std.proofs.lemmas.Option.{slice_get-get_or}
@@ -7,7 +7,7 @@ use Rattle.std.proofs.lemmas.Bool.{and_from}
 use Rattle.std.proofs.lemmas.Bool.Decides.{not_from_Decides}
 use Rattle.std.specs.List.{slice_get}
 use Rattle.cells.specs.declared.fault.Fault.{Fault}
-use Rattle.groups.specs.Compared.{SameAnswers, SameCells, SameShape, read_back}
+use Rattle.groups.specs.Compared.{SameAnswers, SameShape, read_back}
 use Rattle.groups.specs.Meaning.{Cell, GroupLaws, GroupMeaning, address_in, after_write, found, inside, no_place, read_answer, read_only_fault, stored, write_answer}
 use Rattle.groups.proofs.Basics.{address_below}
 

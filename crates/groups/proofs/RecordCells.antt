@@ -1,5 +1,5 @@
 -- A sparse group's records, by the cells that they stand for. Assumes nothing.
-use Rattle.std.proofs.Common.{◌≡◌, ℕ, zero, suc, ◌+◌, ◌*◌, ◌<◌, ◌≤◌, max, Bool, true, false, cond, eqb, List, [], ◌∷◌, map, length, set, Some, None, count_by, Option, sym, refl, ap, ◌∙◌, subst, not-suc-le-zero, mul-le-mul, arith}
+use Rattle.std.proofs.Common.{◌≡◌, ℕ, ◌*◌, ◌<◌, max, Bool, true, false, cond, eqb, List, [], ◌∷◌, map, length, set, Some, count_by, sym, refl, ap, ◌∙◌, subst, not-suc-le-zero, mul-le-mul, arith}
 use Rattle.std.proofs.lemmas.List.FromFn.{get_or-map-range_with_len, length-map-range_with_len}
 use Rattle.std.proofs.ByRecursion.{All-map}
 use Rattle.std.proofs.lemmas.Option.{slice_get-get_or}

@@ -1,5 +1,5 @@
 -- A flat group's rows, by the cells that they stand for. Assumes nothing.
-use Rattle.std.proofs.Common.{◌≡◌, ℕ, zero, suc, ◌+◌, ◌*◌, ◌<◌, ◌≤◌, Bool, true, false, cond, List, [], ◌∷◌, map, length, take, set, Some, None, sym, refl, ap, ◌∙◌, le_of_suc-le-suc, not-suc-le-zero, arith}
+use Rattle.std.proofs.Common.{◌≡◌, ℕ, zero, suc, ◌*◌, ◌<◌, Bool, true, false, cond, List, [], ◌∷◌, map, take, set, Some, sym, refl, ap, ◌∙◌, le_of_suc-le-suc, not-suc-le-zero, arith}
 use lib.Seq.{map-set, take-set-lt}
 use Rattle.std.proofs.ByRecursion.{All-map}
 use Rattle.std.specs.List.{AllByRecursion as All, slice_get}
@@ -7,7 +7,7 @@ use Rattle.cells.specs.Numbers.{Bytes}
 use Rattle.groups.specs.declared.volumes.VolumeTable.{VolumeTable}
 use Rattle.groups.specs.Meaning.{Cell, IsCell, address_in, after_write}
 use Rattle.groups.specs.Rows.{cells_of, flat_meaning, rows_written}
-use Rattle.groups.specs.Tables.{Ready, admits, after_admit, has, kept}
+use Rattle.groups.specs.Tables.{admits, after_admit, has, kept}
 use Rattle.groups.proofs.Basics.{address_below, all_of}
 use Rattle.groups.proofs.TableCalls.{write_kept}
 use Rattle.std.proofs.lemmas.Bool.{and_parts}

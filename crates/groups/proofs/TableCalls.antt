@@ -1,5 +1,5 @@
 -- Calls on a table of volumes, as the group that keeps it means them. Assumes nothing.
-use Rattle.std.proofs.Common.{◌≡◌, ℕ, zero, suc, ◌+◌, ◌*◌, ◌<◌, ◌≤◌, Bool, true, false, cond, not, ◌&&◌, ltb, List, [], ◌∷◌, map, length, get_or, take, set, Some, Ok, Err, Option, Result, sym, refl, ap, ◌∙◌, subst, le_of_suc-le-suc, not-suc-le-zero, arith, length-set}
+use Rattle.std.proofs.Common.{◌≡◌, ℕ, zero, suc, ◌*◌, ◌<◌, Bool, true, false, cond, not, ◌&&◌, ltb, List, [], ◌∷◌, map, get_or, take, set, Some, Ok, Err, Option, Result, sym, refl, ap, ◌∙◌, subst, le_of_suc-le-suc, not-suc-le-zero, arith, length-set}
 use lib.Seq.{map-set, map-set_same, take-set-lt}
 use Rattle.std.proofs.lemmas.Bool.{ltb-true}
 use Rattle.std.specs.List.{slice_get}
@@ -8,8 +8,8 @@ use Rattle.cells.specs.Faults.{answered}
 use Rattle.groups.specs.declared.volumes.VolumeRecord.{VolumeRecord}
 use Rattle.groups.specs.declared.volumes.VolumeTable.{VolumeTable}
 use Rattle.groups.specs.Marking.{accepts, remount_marking, write_marking}
-use Rattle.groups.specs.Meaning.{Cell, GroupMeaning, address_in, after_remount, after_write, found, inside_of, no_place, read_answer, read_only_fault, remount_answer, write_answer}
-use Rattle.groups.specs.Tables.{Ready, admit_answer, admits, after_admit, after_alter, altered_if, counted, down, has, kept, marking, marks_of, place_answer, record_of, unused, volume_answer}
+use Rattle.groups.specs.Meaning.{Cell, address_in, after_remount, after_write, found, no_place, read_answer, read_only_fault, write_answer}
+use Rattle.groups.specs.Tables.{Ready, admit_answer, admits, after_admit, after_alter, altered_if, counted, down, has, kept, marking, marks_of, place_answer, record_of, unused}
 use Rattle.groups.proofs.Basics.{address_below, within}
 
 marks_at : (rs : List VolumeRecord) (n v : ℕ) → v < n → get_or (take n (map (λ r. r.read_only) rs)) v false ≡ (get_or rs v unused).read_only

@@ -1,5 +1,5 @@
 -- What is read back after a write, and when two groups hold the same. Assumes nothing.
-use Rattle.std.specs.Prelude.{◌≡◌, ℕ, cond, List, [], Ok, Err, Result}
+use Rattle.std.specs.Prelude.{◌≡◌, ℕ, cond, [], Ok, Err, Result}
 use Rattle.cells.specs.declared.fault.Fault.{Fault}
 use Rattle.groups.specs.Meaning.{Cell, GroupMeaning, inside, no_place, read_only_fault}
 

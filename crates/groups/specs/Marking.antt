@@ -1,12 +1,11 @@
 -- The laws of a group, of one that refuses a write only while the volume's mark is up. Assumes nothing.
-use Rattle.std.specs.Prelude.{◌≡◌, ℕ, zero, suc, ◌+◌, ◌*◌, ◌<◌, ◌≤◌, Bool, true, false, cond, not, ◌&&◌, List, [], ◌∷◌, map, length, set, nat_lt, slice_index_or, slice_set, refl}
-use Rattle.std.proofs.Common.{sym, ap, subst, ◌∙◌, le_of_suc-le-suc, not-suc-le-zero, arith, length-take-le, lt-ltb}
-use Rattle.std.proofs.Math.Seq.{map-set_same, take-set-lt}
-use Rattle.std.proofs.lemmas.List.{length-map, map-set, set-get_or}
+use Rattle.std.specs.Prelude.{◌≡◌, ℕ, ◌*◌, Bool, true, false, cond, not, ◌&&◌, List, [], ◌∷◌, map, length, set, nat_lt, slice_index_or, slice_set, refl}
+use Rattle.std.proofs.Common.{sym, ap, subst, ◌∙◌, arith, length-take-le}
+use Rattle.std.proofs.lemmas.List.{length-map, set-get_or}
 use Rattle.groups.specs.declared.volumes.VolumeRecord.{VolumeRecord}
 use Rattle.groups.specs.declared.volumes.VolumeTable.{VolumeTable}
-use Rattle.groups.specs.Meaning.{Cell, GroupCall, GroupLaws, GroupMeaning, Shaped, address_in, after, after_remount, after_write, inside_of, marked, mounted, ran, remount, stored, write}
-use Rattle.groups.specs.Tables.{Ready, marking, marks_after, marks_of, kept}
+use Rattle.groups.specs.Meaning.{Cell, GroupCall, GroupLaws, GroupMeaning, address_in, after_remount, after_write, inside_of, marked, mounted, ran, remount, stored, write}
+use Rattle.groups.specs.Tables.{Ready, marking, marks_of, kept}
 
 -- whether such a group takes a write to a place
 abbrev pub accepts : ℕ → ℕ → List Bool → ℕ → ℕ → Bool

@@ -1,6 +1,5 @@
 -- A sparse group's memory: the first record has the cell of every address that none of those in use has. Assumes nothing.
-use Rattle.std.specs.Prelude.{◌≡◌, ℕ, zero, suc, ◌+◌, ◌*◌, ◌≤◌, max, Bool, true, false, cond, List, [], ◌∷◌, map, length, take, drop, Some, None, count_by, Option, ◌==◌, slice_set}
-use Rattle.std.proofs.Common.{◌∙◌}
+use Rattle.std.specs.Prelude.{◌≡◌, ℕ, suc, ◌*◌, max, Bool, true, false, cond, List, [], ◌∷◌, map, take, drop, Some, None, count_by, Option, ◌==◌, slice_set}
 use Rattle.std.proofs.lemmas.List.FromFn.{length-map-range_with_len}
 use Rattle.std.specs.List.{range_with_len}
 use Rattle.groups.specs.declared.records.Record.{Record}

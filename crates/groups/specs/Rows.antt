@@ -1,6 +1,6 @@
 -- A flat group's memory: a row for each address, and rows beyond them that are never touched. Assumes nothing.
-use Rattle.std.specs.Prelude.{◌≡◌, ℕ, zero, suc, ◌+◌, ◌*◌, ◌≤◌, Bool, true, cond, ◌&&◌, List, [], ◌∷◌, map, length, take, slice_set}
-use Rattle.std.proofs.Common.{sym, ap, ◌∙◌, arith}
+use Rattle.std.specs.Prelude.{ℕ, ◌*◌, ◌≤◌, cond, List, map, length, take, slice_set}
+use Rattle.std.proofs.Common.{◌∙◌}
 use Rattle.std.proofs.lemmas.List.{length-map, length-take-le}
 use Rattle.groups.specs.declared.volumes.VolumeTable.{VolumeTable}
 use Rattle.groups.specs.Marking.{kept_lawful}

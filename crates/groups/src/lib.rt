@@ -1,4 +1,6 @@
 // Groups: what a cabinet keeps, volume by volume and block by block.
+#![tactic(auto)]
+
 pub mod compare;
 pub mod find;
 pub mod flat;

@@ -1,5 +1,5 @@
 -- What a take answers. Assumes nothing.
-use Rattle.std.proofs.Common.{◌≡◌, ℕ, ◌≤◌, Bool, true, false, cond, leb, List, [], length, Some, None, Ok, Err, Option, Result, refl, ap, subst, arith}
+use Rattle.std.proofs.Common.{◌≡◌, ℕ, ◌≤◌, Bool, true, false, cond, leb, List, [], length, Some, None, Ok, Err, Option, Result, refl, arith}
 use Rattle.cells.specs.declared.fault.Fault.{Fault}
 use Rattle.links.specs.Calls.{length_of, short_buffer, take_answer}
 use Rattle.links.specs.Meaning.{Datagram, LinkLaws, LinkMeaning, Sized}

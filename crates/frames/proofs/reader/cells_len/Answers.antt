@@ -1,4 +1,4 @@
-use Rattle.std.proofs.Common.{ℕ, ◌*◌, ◌<◌, ◌≤◌, arith, rules}
+use Rattle.std.proofs.Common.{◌<◌, ◌≤◌, arith, rules}
 use lib.Count.{ones, ones-le}
 use mir.Facts.{Fits-of_lt}
 use Rattle.std.proofs.lemmas.Nat.{mul-le}

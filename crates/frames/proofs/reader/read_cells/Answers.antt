@@ -1,9 +1,9 @@
-use Rattle.std.proofs.Common.{◌≡◌, ℕ, ◌+◌, ◌<◌, ◌≤◌, List, take, drop, set, Ok, Err, sym, refl, ap, ◌∙◌, subst, arith, rules}
+use Rattle.std.proofs.Common.{◌+◌, take, drop, sym, ap, ◌∙◌, subst, arith}
 use Rattle.std.proofs.lemmas.Result.{err_from_is_err_and}
 use Rattle.cells.proofs.CellOf.{read_from_ok, unread_from_err}
 use Rattle.frames.specs.Format.{parted}
 use Rattle.frames.specs.Frames.{CellsOf}
-use Rattle.frames.proofs.Cutting.{Cutting, moved, room, cutting_up, cutting_down, cutting_stops, cutting_all}
+use Rattle.frames.proofs.Cutting.{moved, room, cutting_up, cutting_down, cutting_stops, cutting_all}
 use Rattle.frames.proofs.reader.read_cells.Goals.{then-map-i-eq1+in_ok-cells, else-map-i-eq1}
 use Rattle.frames.proofs.reader.read_cells.Goals as goal
 

@@ -1,4 +1,4 @@
-use Rattle.std.proofs.Common.{◌≡◌, ℕ, List, take, drop, sym, ap, ◌∙◌, rules}
+use Rattle.std.proofs.Common.{◌≡◌, take, ap, ◌∙◌}
 use native.Mathlib.Nat.{add-sub_cancel_left, sub-zero}
 use Rattle.std.proofs.lemmas.List.{drop-drop, take_at}
 use Rattle.frames.proofs.writer.put_at.Goals as goal

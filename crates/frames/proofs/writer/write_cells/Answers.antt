@@ -1,6 +1,6 @@
-use Rattle.std.proofs.Common.{◌≡◌, ◌+◌, ◌<◌, ◌≤◌, length, sym, refl, ap, ◌∙◌, arith, rules}
+use Rattle.std.proofs.Common.{◌+◌, ◌<◌, ◌≤◌, length, ap, ◌∙◌, arith}
 use Rattle.frames.proofs.Places.{some_at}
-use Rattle.frames.proofs.Laying.{Laid, laid_none, laid_up, laid_down, laid_all, relaid}
+use Rattle.frames.proofs.Laying.{laid_none, laid_up, laid_down, laid_all, relaid}
 use Rattle.frames.proofs.writer.write_cells.Goals.{then-map-i-eq1, else-map-i-eq1}
 use Rattle.frames.proofs.writer.write_cells.Goals as goal
 

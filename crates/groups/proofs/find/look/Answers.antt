@@ -1,4 +1,3 @@
-use Rattle.std.proofs.Common.{arith}
 use Rattle.groups.proofs.RecordPlaces.{row_first, row_found}
 use Rattle.groups.proofs.find.look.Goals as goal
 

@@ -1,4 +1,4 @@
-use Rattle.std.proofs.Common.{arith, rules}
+use Rattle.std.proofs.Common.{rules}
 use Rattle.capture.proofs.Lines.{byte_joined}
 use Rattle.capture.proofs.line.HexLine.byte.Goals as goal
 

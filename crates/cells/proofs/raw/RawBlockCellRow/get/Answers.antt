@@ -1,4 +1,4 @@
-use Rattle.std.proofs.Common.{◌≡◌, ℕ, ◌<◌, length, get_or, Ok, Err, sym, ap, ◌∙◌, rules}
+use Rattle.std.proofs.Common.{ℕ, ◌<◌, length, get_or, Ok, Err, sym, ap, ◌∙◌, rules}
 use Rattle.std.proofs.lemmas.Bool.{eq-eqb, cond-true}
 use Rattle.cells.specs.Faults.{not_a_cell}
 use Rattle.cells.specs.Raws.{raw_at, raw_bytes, raw_reads}

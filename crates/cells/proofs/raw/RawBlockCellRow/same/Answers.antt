@@ -1,4 +1,4 @@
-use Rattle.std.proofs.Common.{◌≡◌, ℕ, ◌^◌, ◌<◌, ap, rules}
+use Rattle.std.proofs.Common.{◌≡◌, ap, rules}
 use Rattle.std.proofs.lemmas.Bool.Decides.{Decides-like}
 use Rattle.cells.specs.Raws.{raw_bytes}
 use Rattle.cells.specs.RawBytes.{same_raw}

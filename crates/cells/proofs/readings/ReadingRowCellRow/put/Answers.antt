@@ -1,4 +1,4 @@
-use Rattle.std.proofs.Common.{◌≡◌, ℕ, List, [], ◌∷◌, ◌++◌, drop, sym, ap, ◌∙◌, w32, of_z, rules}
+use Rattle.std.proofs.Common.{◌≡◌, ℕ, List, ◌++◌, drop, ap, ◌∙◌, w32, of_z, rules}
 use Rattle.cells.specs.Readings.{row_bytes, standing}
 use Rattle.cells.specs.BigEndian.{be_four}
 use Rattle.cells.proofs.readings.ReadingRowCellRow.put.Goals as goal

@@ -1,6 +1,5 @@
-use Rattle.std.proofs.Common.{◌≡◌, ℕ, ◌^◌, ◌<◌, true, sym, ap, ◌∙◌, subst, rules}
+use Rattle.std.proofs.Common.{◌≡◌, ◌^◌, ◌<◌, true, sym, ap, ◌∙◌, rules}
 use Rattle.std.proofs.lemmas.Bool.Decides.{Decides-like}
-use Rattle.cells.specs.declared.reading.ReadingRow.{ReadingRow}
 use Rattle.cells.specs.Readings.{makes, row_bytes, standing}
 use Rattle.cells.specs.ReadingBytes.{makes-standing, same_rows}
 use Rattle.cells.proofs.readings.ReadingRowCellRow.same.Goals as goal

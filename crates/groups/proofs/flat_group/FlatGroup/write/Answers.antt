@@ -1,7 +1,7 @@
-use Rattle.std.proofs.Common.{◌≡◌, ◌*◌, sym, refl, ap, ◌∙◌}
+use Rattle.std.proofs.Common.{◌*◌, sym, refl, ap, ◌∙◌}
 use Rattle.std.proofs.lemmas.Result.{err_from_is_err_and}
 use Rattle.cells.specs.Faults.{answered}
-use Rattle.groups.specs.Rows.{cells_of, rows_written}
+use Rattle.groups.specs.Rows.{cells_of}
 use Rattle.groups.proofs.RowCalls.{flat_written, rows_laid, rows_left}
 use Rattle.groups.proofs.TableCalls.{refused, taken, write_answered}
 use Rattle.groups.proofs.flat_group.FlatGroup.write.Goals as goal

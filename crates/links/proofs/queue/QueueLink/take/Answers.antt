@@ -1,6 +1,5 @@
 use Rattle.std.proofs.Common.{◌≡◌, length, drop, ap, ◌∙◌}
 use Rattle.std.proofs.lemmas.Bool.{le-leb}
-use Rattle.links.specs.Calls.{laid}
 use Rattle.links.specs.Queued.{held, rest}
 use Rattle.links.proofs.Places.{held_min}
 use Rattle.links.proofs.QueueCalls.{after_take}
