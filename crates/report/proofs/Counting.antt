@@ -1,5 +1,5 @@
 -- A capture read a byte at a time is its lines, counted one after the other. Assumes nothing.
-use Rattle.std.proofs.Common.{◌≡◌, ℕ, Bool, true, false, cond, eqb, List, [], ◌∷◌, ◌++◌, Option, sym, refl, ap, ◌∙◌}
+use Rattle.std.proofs.Common.{◌≡◌, ℕ, Bool, true, false, eqb, List, [], ◌∷◌, ◌++◌, Option, refl, ap, ◌∙◌}
 use Rattle.std.proofs.lemmas.Bool.{cond-false, ne_eqb}
 use Rattle.capture.specs.Hex.{datagram_of}
 use Rattle.capture.specs.Steps.{LineMeaning, blank, pushed, ended, read}
@@ -7,7 +7,7 @@ use Rattle.capture.proofs.Lines.{every_line_is_read}
 use Rattle.report.specs.declared.tally.Tally.{Tally}
 use Rattle.report.specs.Reports.{heard, line_outcome}
 use Rattle.report.specs.Tallies.{none, counted}
-use Rattle.report.specs.Dumping.{DumpMeaning, started, line_ended, byte_read, bytes_read, finished, lines_counted, Unbroken, AllUnbroken, captured, all_lines, EveryLineIsCounted}
+use Rattle.report.specs.Dumping.{DumpMeaning, line_ended, byte_read, bytes_read, finished, lines_counted, Unbroken, AllUnbroken, captured, all_lines, EveryLineIsCounted}
 
 module _ (w : ℕ) (reads : List ℕ → Bool) where
   at : LineMeaning → Bool → Tally → DumpMeaning

@@ -1,8 +1,7 @@
 -- Text appended bit by bit. Assumes nothing.
-use Rattle.std.proofs.Common.{◌≡◌, ℕ, zero, suc, ◌+◌, ◌-◌, ◌*◌, ◌/◌, ◌%◌, ◌^◌, ◌<◌, ◌≤◌, Bool, true, false, cond, eqb, List, [], ◌∷◌, ◌++◌, length, get_or, drop, Some, None, codes, decimal, Option, sym, refl, ap, ◌∙◌, add-zero, add_assoc, div-one, arith}
+use Rattle.std.proofs.Common.{◌≡◌, ℕ, suc, ◌+◌, ◌-◌, ◌/◌, ◌%◌, ◌^◌, ◌<◌, ◌≤◌, Bool, true, false, cond, eqb, List, [], ◌∷◌, ◌++◌, length, get_or, drop, Some, None, codes, decimal, Option, sym, ap, ◌∙◌, add-zero, add_assoc, div-one, arith}
 use Rattle.std.proofs.lemmas.List.{append_assoc, append-nil, drop_all}
 use Rattle.std.proofs.lemmas.Bool.{eq-eqb, ne_eqb}
-use Rattle.frames.specs.Meaning.{Places}
 use Rattle.frames.specs.Frames.{place, places}
 use Rattle.frames.proofs.Places.{shr_more, place_up, place_down, places_step, some_at}
 use Rattle.report.specs.Reports.{entry_text, entries_text, held_text}

@@ -1,5 +1,5 @@
 -- A capture read a byte at a time. Assumes nothing.
-use Rattle.std.specs.Prelude.{◌≡◌, ℕ, Bool, true, false, cond, List, [], ◌∷◌, ◌++◌, string_bytes, ◌==◌, ◌≢◌}
+use Rattle.std.specs.Prelude.{◌≡◌, ℕ, Bool, true, false, cond, List, [], ◌∷◌, ◌++◌, ◌==◌, ◌≢◌}
 use Rattle.capture.specs.Hex.{datagram_of}
 use Rattle.capture.specs.Steps.{LineMeaning, line_of, blank, pushed, ended}
 use Rattle.report.specs.declared.tally.Tally.{Tally}

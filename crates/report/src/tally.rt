@@ -86,6 +86,7 @@ impl Tally {
         write!(
             line,
             "{whole} whole, {refused} refused, {unreadable} unreadable"
-        )
+        )?;
+        Ok(())
     }
 }

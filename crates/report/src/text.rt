@@ -24,7 +24,8 @@ impl CellText for RawBlock {
     fn push_text(self, line: &mut String) -> fmt::Result {
         let high = self.high;
         let low = self.low;
-        write!(line, "{high},{low}")
+        write!(line, "{high},{low}")?;
+        Ok(())
     }
 }
 
@@ -36,6 +37,7 @@ impl CellText for ReadingRow {
         let level = row.level;
         let second = row.second;
         let quality = row.quality;
-        write!(line, "{level},{second},{quality}")
+        write!(line, "{level},{second},{quality}")?;
+        Ok(())
     }
 }

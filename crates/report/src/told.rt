@@ -77,12 +77,14 @@ pub fn push_frame<R: CellText>(frame: &Frame<R>, line: &mut String) -> fmt::Resu
         Frame::Marker(marker) => {
             let cycle = marker.cycle;
             let count = marker.count;
-            write!(line, "marker {cycle} {count}")
+            write!(line, "marker {cycle} {count}")?;
+            Ok(())
         }
         Frame::Held(held) => push_held::<R>(held, line),
         Frame::Whole(whole) => {
             let cycle = whole.cycle;
-            write!(line, "whole {cycle}")
+            write!(line, "whole {cycle}")?;
+            Ok(())
         }
     }
 }

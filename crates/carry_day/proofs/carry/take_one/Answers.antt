@@ -4,8 +4,8 @@ use Rattle.links.specs.QueueLaws.{queue_laws}
 use Rattle.links.specs.Queued.{queue_of}
 use Rattle.carry_day.proofs.carry.take_one.Goals as goal
 
-pub slice-bounds-read-end : goal.slice-bounds-read-end
-slice-bounds-read-end c =
+pub slice_bounds-read-end : goal.slice_bounds-read-end
+slice_bounds-read-end c =
     let q = c.args.queue.now in
     let h = taken_fits (queue_of q.places.now q.used q.fates.now q.next) (queue_laws q.places.now q.used q.fates.now q.next) (replicate 136 0) c.in-Some.n (sym c.take.ensures.answer ∙ c.in_ok-n.was ∙ ap Ok c.in-Some.is) in
     search rules

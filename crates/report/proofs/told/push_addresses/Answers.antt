@@ -1,4 +1,4 @@
-use Rattle.std.proofs.Common.{◌≡◌, ℕ, ◌+◌, ◌*◌, ◌<◌, List, ◌++◌, string_bytes, codes, decimal, sym, ap, subst, arith, rules}
+use Rattle.std.proofs.Common.{◌≡◌, ◌+◌, ◌*◌, ◌++◌, string_bytes, codes, decimal, sym, ap, subst, arith, rules}
 use Rattle.report.proofs.Telling.{HeldTold, held_none, held_up, held_down, held_all}
 use Rattle.report.proofs.told.push_addresses.Goals.{then-map-i-eq1+in_ok-write, else-map-i-eq1}
 use Rattle.report.proofs.told.push_addresses.Goals as goal

@@ -1,4 +1,4 @@
-use Rattle.std.proofs.Common.{◌≡◌, ℕ, ◌+◌, ◌*◌, ◌<◌, List, ◌++◌, length, string_bytes, sym, ap, subst, arith, rules}
+use Rattle.std.proofs.Common.{◌≡◌, ◌+◌, ◌*◌, ◌<◌, ◌++◌, length, string_bytes, sym, ap, subst, arith, rules}
 use Rattle.report.specs.Reports.{entry_text}
 use Rattle.report.proofs.Telling.{EntriesTold, entries_none, entries_up, entries_down, entries_all}
 use Rattle.report.proofs.told.push_cells.Goals.{then-map-i-eq1+in_ok-push_entry, else-map-i-eq1}

@@ -1,4 +1,4 @@
-use Rattle.std.proofs.Common.{◌≡◌, ℕ, ◌*◌, List, ◌++◌, string_bytes, codes, rules}
+use Rattle.std.proofs.Common.{◌≡◌, ◌*◌, ◌++◌, string_bytes, codes, rules}
 use Rattle.frames.specs.Frames.{places}
 use Rattle.report.specs.Reports.{head_text, entries_text}
 use Rattle.report.proofs.Telling.{told_then}

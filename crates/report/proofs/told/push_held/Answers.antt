@@ -1,4 +1,4 @@
-use Rattle.std.proofs.Common.{◌≡◌, ℕ, ◌*◌, List, ◌++◌, string_bytes, codes, rules}
+use Rattle.std.proofs.Common.{◌≡◌, ◌*◌, ◌++◌, string_bytes, codes, rules}
 use Rattle.report.specs.Reports.{head_text, held_text}
 use Rattle.report.proofs.Telling.{told_then}
 use Rattle.report.proofs.told.push_held.Goals as goal

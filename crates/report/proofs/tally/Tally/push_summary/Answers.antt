@@ -1,5 +1,4 @@
-use Rattle.std.proofs.Common.{◌≡◌, true, List, ◌++◌, is_ok, string_bytes, rules}
-use Rattle.report.specs.Lines.{Appended}
+use Rattle.std.proofs.Common.{◌≡◌, ◌++◌, string_bytes}
 use Rattle.report.specs.Tallies.{frames_text, rest_text}
 use Rattle.report.proofs.Telling.{told_then}
 use Rattle.report.proofs.tally.Tally.push_summary.Goals as goal
@@ -11,5 +10,5 @@ returns c =
     let mid = string_bytes c.write.new.self in
     let new = string_bytes c.write-2.new.self in
     let first : mid ≡ old ++ frames_text t = c.in_ok-write.ensures.bytes in
-    let second : Appended c.write-2.result mid (rest_text t) new = search rules in
-    λ ok. told_then old mid new (frames_text t) (rest_text t) first (second ok)
+    let second : new ≡ mid ++ rest_text t = c.in_ok-write-2.ensures.bytes in
+    λ ok. told_then old mid new (frames_text t) (rest_text t) first second
