@@ -1,5 +1,5 @@
 -- What sending a frame comes to. Assumes nothing.
-use Rattle.std.proofs.Common.{◌≡◌, ℕ, ◌*◌, ◌/◌, ◌%◌, ◌^◌, List, ◌++◌, length, take, drop, replicate, Ok, Err, Result, sym, refl, ap, ◌∙◌, mod-lt, arith}
+use Rattle.std.proofs.Common.{◌≡◌, ℕ, ◌*◌, ◌/◌, ◌%◌, ◌^◌, List, ◌++◌, length, take, replicate, Ok, Err, Result, sym, ap, ◌∙◌, mod-lt, arith}
 use Rattle.std.proofs.lemmas.Nat.{one_shl}
 use Rattle.std.proofs.lemmas.List.{take_at}
 use Rattle.cells.specs.declared.fault.Fault.{Fault}
@@ -9,9 +9,7 @@ use Rattle.cells.specs.Readings.{reading_bytes}
 use Rattle.frames.specs.Format.{entries_of}
 use Rattle.frames.specs.Frames.{places}
 use Rattle.frames.specs.Meaning.{FrameMeaning, encoded}
-use Rattle.links.specs.Calls.{send_answer, send_meaning}
-use Rattle.links.specs.Meaning.{LinkMeaning}
-use Rattle.carry_day.specs.Carried.{frame_of, sent_answer, sent_meaning}
+use Rattle.carry_day.specs.Carried.{frame_of}
 
 -- a frame that could not be made
 pub unmade : {X : Type 0} (of : X → FrameMeaning) (r : Result X Fault) (f : Result FrameMeaning Fault) (e : Fault) → answered of r ≡ f → r ≡ Err e → f ≡ Err e

@@ -1,5 +1,5 @@
 -- A cell sent over a queue. Assumes nothing.
-use Rattle.std.specs.Prelude.{ℕ, ◌/◌, ◌%◌, ◌^◌, List, replicate, Ok, Err, Result}
+use Rattle.std.specs.Prelude.{ℕ, ◌/◌, ◌%◌, ◌^◌, replicate, Ok, Err, Result}
 use Rattle.cells.specs.declared.fault.Fault.{Fault}
 use Rattle.cells.specs.declared.reading.ReadingRow.{ReadingRow}
 use Rattle.cells.specs.Readings.{reading_bytes}

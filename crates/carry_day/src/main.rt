@@ -1,5 +1,7 @@
 // carry_day: lays a day of readings into a flat and a sparse group, carries each written cell over a queue that
 // loses, doubles and overtakes, and tells what became of them.
+#![tactic(auto)]
+
 use crate::day::{Tally, run};
 use anyhow::anyhow;
 use cells::fault::Fault;

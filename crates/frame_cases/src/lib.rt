@@ -1,3 +1,5 @@
+#![tactic(auto)]
+
 // Examples of faults, cells and frames.
 #[cfg(test)]
 mod tests {

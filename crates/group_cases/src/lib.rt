@@ -1,3 +1,5 @@
+#![tactic(auto)]
+
 // Examples of flat, sparse and borrowed groups.
 #[cfg(test)]
 mod tests {

@@ -1,3 +1,5 @@
+#![tactic(auto)]
+
 // Examples of links: a queue with each fate, a latch, and an exchange over both.
 #[cfg(test)]
 mod tests {

@@ -1,4 +1,4 @@
-use Rattle.std.proofs.Common.{◌≡◌, replicate, Ok, sym, ap, ◌∙◌, rules}
+use Rattle.std.proofs.Common.{replicate, Ok, sym, ap, ◌∙◌, rules}
 use Rattle.links.proofs.Takes.{taken_fits}
 use Rattle.links.specs.QueueLaws.{queue_laws}
 use Rattle.links.specs.Queued.{queue_of}
