@@ -4,7 +4,7 @@ use Rattle.std.proofs.lemmas.List.FromFn.{get_or-map-range_with_len, length-map-
 use Rattle.std.proofs.ByRecursion.{All-map}
 use Rattle.std.proofs.lemmas.Option.{slice_get-get_or}
 use Rattle.std.proofs.lemmas.Bool.{and_parts}
-use Rattle.std.specs.List.{range_with_len, AllByRecursion as All, slice_get}
+use Rattle.std.specs.List.{range_with_len, AllByRecursion, slice_get}
 use Rattle.cells.specs.Numbers.{Bytes}
 use Rattle.groups.specs.declared.records.Record.{Record}
 use Rattle.groups.specs.declared.volumes.VolumeTable.{VolumeTable}
@@ -24,7 +24,7 @@ module _ {R : Type 0} (bytes : R → Cell) where
       slice_get-get_or (map f (range_with_len 0 n)) a [] (omega arith) ∙ ap Some (get_or-map-range_with_len f 0 n a a [] h (omega arith) ∙ ap (cell_by bytes) e)
 
   -- whatever records hold, they stand for cells of the kind
-  pub records_celled : (reads : List ℕ → Bool) → ((r : R) → reads (bytes r) ≡ true) → ((r : R) → Bytes (bytes r)) → (rs : List (Record R)) (used n : ℕ) → n < length rs → All (IsCell reads) (record_cells bytes n rs used)
+  pub records_celled : (reads : List ℕ → Bool) → ((r : R) → reads (bytes r) ≡ true) → ((r : R) → Bytes (bytes r)) → (rs : List (Record R)) (used n : ℕ) → n < length rs → AllByRecursion (IsCell reads) (record_cells bytes n rs used)
   records_celled reads p q [] used n h = absurd (not-suc-le-zero h)
   records_celled reads p q (r ∷ rs) used n h =
       All-map (IsCell reads) (λ (a : ℕ). cell_by bytes (row_in (r ∷ rs) used a)) (range_with_len 0 n) (all_of (λ (a : ℕ). IsCell reads (cell_by bytes (row_in (r ∷ rs) used a))) (λ a. (p _, q _)) (range_with_len 0 n))

@@ -2,7 +2,7 @@
 use Rattle.std.proofs.Common.{◌≡◌, ℕ, zero, suc, ◌*◌, ◌<◌, Bool, true, false, cond, List, [], ◌∷◌, map, take, set, Some, sym, refl, ap, ◌∙◌, le_of_suc-le-suc, not-suc-le-zero, arith}
 use lib.Seq.{map-set, take-set-lt}
 use Rattle.std.proofs.ByRecursion.{All-map}
-use Rattle.std.specs.List.{AllByRecursion as All, slice_get}
+use Rattle.std.specs.List.{AllByRecursion, slice_get}
 use Rattle.cells.specs.Numbers.{Bytes}
 use Rattle.groups.specs.declared.volumes.VolumeTable.{VolumeTable}
 use Rattle.groups.specs.Meaning.{Cell, IsCell, address_in, after_write}
@@ -20,7 +20,7 @@ module _ {R : Type 0} (bytes : R → Cell) where
   cell_at (x ∷ rows) (suc n) (suc a) r h e = cell_at rows n a r (le_of_suc-le-suc h) e
 
   -- whatever rows hold, they stand for cells of the kind
-  pub rows_celled : (reads : List ℕ → Bool) → ((r : R) → reads (bytes r) ≡ true) → ((r : R) → Bytes (bytes r)) → (rows : List R) → All (IsCell reads) (map bytes rows)
+  pub rows_celled : (reads : List ℕ → Bool) → ((r : R) → reads (bytes r) ≡ true) → ((r : R) → Bytes (bytes r)) → (rows : List R) → AllByRecursion (IsCell reads) (map bytes rows)
   rows_celled reads p q rows = All-map (IsCell reads) bytes rows (all_of (λ r. IsCell reads (bytes r)) (λ r. (p r, q r)) rows)
 
   rows_if : (test : Bool) (n a : ℕ) (rows : List R) (row : R) → (test ≡ true → a < n) → cells_of bytes n (cond test (set rows a row) rows) ≡ cond test (set (cells_of bytes n rows) a (bytes row)) (cells_of bytes n rows)

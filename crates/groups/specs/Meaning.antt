@@ -1,6 +1,6 @@
 -- What a group of volumes means, with what it foretells, and what its calls answer and leave. Assumes nothing.
 use Rattle.std.specs.Prelude.{◌≡◌, ℕ, ◌+◌, ◌*◌, ◌≤◌, Bool, true, false, cond, ◌&&◌, List, [], ◌∷◌, length, Some, None, Ok, Err, Option, Result, nat_lt, slice_index_or, slice_set}
-use Rattle.std.specs.List.{AllByRecursion as All, slice_get}
+use Rattle.std.specs.List.{AllByRecursion, slice_get}
 use Rattle.cells.specs.declared.fault.Fault.{Fault}
 use Rattle.cells.specs.declared.fault.Refusal.TheVariants.{NoSuchPlace, ReadOnly}
 use Rattle.cells.specs.Faults.{fault_in}
@@ -111,7 +111,7 @@ IsCell reads x = (reads x ≡ true) × Bytes x
 
 -- every cell of a group is one of the kind
 abbrev pub Celled : (List ℕ → Bool) → GroupMeaning → Type 0
-Celled reads m = All (IsCell reads) m.cells
+Celled reads m = AllByRecursion (IsCell reads) m.cells
 
 -- what holds of every group
 pub record GroupLaws (m : GroupMeaning) : Type 0 where
