@@ -2,7 +2,8 @@
 #![tactic(auto)]
 
 use report::cli::framedump;
+use std::process::ExitCode;
 
-fn main(rt: HostRuntime) -> anyhow::Result<()> {
+fn main(rt: HostRuntime) -> anyhow::Result<ExitCode> {
     framedump(rt)
 }

@@ -3,11 +3,11 @@ ghost use Rattle.std.specs.Prelude.{ℕ};
 ghost use Rattle.report.specs.Kinds.{Named};
 
 use crate::dump::dump;
-use anyhow::anyhow;
 use cells::raw::RawBlock;
 use cells::reading::ReadingRow;
 use std::env;
 use std::io::{BufWriter, Write};
+use std::process::ExitCode;
 
 // The kind of cells that a capture has.
 #[derive(Clone, Copy)]
@@ -54,10 +54,11 @@ fn dump_as(rt: &HostRuntime, kind: Kind) -> anyhow::Result<()> {
 }
 
 // Tells the capture on standard input, or how the program is used.
-pub fn framedump(rt: HostRuntime) -> anyhow::Result<()> {
+pub fn framedump(rt: HostRuntime) -> anyhow::Result<ExitCode> {
     let Some(kind) = kind_asked(&rt)? else {
         eprintln!(rt; "usage: framedump raw|reading < CAPTURE")?;
-        return Err(anyhow!("no kind of cells"));
+        return Ok(ExitCode::FAILURE);
     };
-    dump_as(&rt, kind)
+    dump_as(&rt, kind)?;
+    Ok(ExitCode::SUCCESS)
 }
