@@ -1,5 +1,6 @@
 -- What an answer to reading a cell tells. Assumes nothing.
 use Rattle.std.proofs.Common.{◌≡◌, ℕ, Bool, true, false, cond, eqb, List, ◌++◌, length, take, Some, None, Ok, Err, Result, sym, refl, ap, ◌∙◌, arith}
+use Rattle.std.specs.Option.{ok_or}
 use Rattle.cells.specs.declared.fault.Fault.{Fault}
 use Rattle.std.proofs.lemmas.List.{take_at}
 use Rattle.std.proofs.lemmas.Bool.{both_ways, cond-true, eqb-true}
@@ -21,6 +22,11 @@ some_if false x y e = let z : ◌≡◌ {A = ℕ} 0 1 = cc in absurd (omega arit
 -- a row of bytes of a length
 pub sized_from_some : {X : Type 0} (n : ℕ) (bs : List ℕ) (x y : X) → Some x ≡ cond (eqb (length bs) n) (Some y) None → (length bs ≡ n) × (x ≡ y)
 sized_from_some n bs x y e = let p = some_if (eqb (length bs) n) x y e in (eqb-true (length bs) n p.0, p.1)
+
+-- bytes that write a cell where they are of its length, and else none
+pub read_or_not : {X : Type 0} (bytes : X → List ℕ) (b : Bool) (x : X) (bs : List ℕ) → (b ≡ true → bytes x ≡ bs) → answered bytes (ok_or (cond b (Some x) None) not_a_cell) ≡ cond b (Ok bs) (Err not_a_cell)
+read_or_not bytes true x bs h = ap Ok (h refl)
+read_or_not bytes false x bs h = refl
 
 pub read_from_ok : (reads : List ℕ → Bool) (bs c : List ℕ) → Ok c ≡ cell_of reads bs → (reads bs ≡ true) × (c ≡ bs)
 read_from_ok reads bs c e = either (reads bs) bs c e

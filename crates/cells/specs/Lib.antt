@@ -4,6 +4,7 @@ pub mod Cells
 pub mod Raws
 pub mod Levels
 pub mod Readings
+pub mod Texts
 pub mod RawBytes
 pub mod BigEndian
 pub mod ReadingBytes

@@ -1,8 +1,10 @@
 // Faults: why a call was refused, and where.
-ghost use Rattle.std.specs.Prelude.{◌≡◌, ℕ};
-ghost use Rattle.cells.specs.Faults.{fault, fault_in, placed, placed_in, refusal_number};
+ghost use Rattle.std.specs.Prelude.{◌≡◌, ℕ, Some, decimal};
+ghost use Rattle.cells.specs.Faults.{fault, fault_in, not_a_cell, placed, placed_in, refusal_number};
 
-// Every refusal of the mirroring. `number` gives the number that operators know it by.
+use std::fmt;
+
+// Every refusal of the mirroring. Operators know it by its number, as which it is printed.
 #[derive(Clone, Copy, PartialEq, Eq, Debug)]
 pub enum Refusal {
     // A volume, a block, a page or an address that the group does not have.
@@ -68,11 +70,19 @@ pub struct Fault {
     pub volume: Option<usize>,
 }
 
-impl Refusal {
-    pub fn number(self) -> u8
-        ensures { result ≡ refusal_number self }
-    {
-        self as u8
+impl From<Refusal> for u8 {
+    ghost from_gives = { λ r n. n ≡ refusal_number r };
+
+    fn from(refusal: Refusal) -> u8 {
+        refusal as u8
+    }
+}
+
+impl fmt::Display for Refusal {
+    ghost output = { λ r. Some (decimal (refusal_number r)) };
+
+    fn fmt<W: fmt::Write>(&self, f: &mut fmt::Formatter<W>) -> fmt::Result {
+        write!(f, "{}", u8::from(*self))
     }
 }
 
@@ -95,11 +105,8 @@ impl Fault {
         ensures { result ≡ fault_in refusal volume }
     {
         Fault {
-            refusal,
-            layer: Layer::Group,
-            side: None,
-            cycle: 0,
             volume: Some(volume),
+            ..Fault::new(refusal, Layer::Group)
         }
     }
 
@@ -115,18 +122,29 @@ impl Fault {
     }
 }
 
+// Bytes or numbers that make no cell of the kind.
+pub(crate) fn not_a_cell() -> Fault
+    ensures { result ≡ not_a_cell }
+{
+    Fault::new(Refusal::NotACell, Layer::Cell)
+}
+
 // What an end does to a result from below before it passes it up by `?`.
 pub trait Place<T> {
-    fn at(self, side: Side, cycle: u32) -> Result<T, Fault>;
+    ghost use Rattle.std.specs.Prelude.{Result};
+    ghost use Rattle.cells.specs.declared.fault.Fault.{Fault};
+
+    // The result from below.
+    ghost below: { Self → Result T Fault };
+
+    fn at(self, side: Side, cycle: u32) -> Result<T, Fault>
+        ensures { result ≡ placed_in side cycle (below self) };
 }
 
 impl<T> Place<T> for Result<T, Fault> {
-    fn at(self, side: Side, cycle: u32) -> Result<T, Fault>
-        ensures { result ≡ placed_in side cycle self }
-    {
-        match self {
-            Ok(value) => Ok(value),
-            Err(fault) => Err(fault.at(side, cycle)),
-        }
+    ghost below = { λ r. r };
+
+    fn at(self, side: Side, cycle: u32) -> Result<T, Fault> {
+        self.map_err(|fault| fault.at(side, cycle))
     }
 }

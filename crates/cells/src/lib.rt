@@ -6,3 +6,4 @@ pub mod fault;
 pub mod raw;
 pub mod reading;
 pub mod readings;
+pub mod text;

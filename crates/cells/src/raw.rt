@@ -6,9 +6,9 @@ ghost use Rattle.std.proofs.lemmas.Bool.{eq-eqb, eqb-true};
 ghost use Rattle.std.proofs.Common.{rules};
 
 use crate::cell::CellRow;
-use crate::fault::{Fault, Layer, Refusal};
+use crate::fault::{Fault, not_a_cell};
 
-#[derive(Clone, Copy, Debug)]
+#[derive(Clone, Copy, PartialEq, Eq, Debug, Default)]
 pub struct RawBlock {
     pub high: u64,
     pub low: u64,
@@ -24,15 +24,6 @@ fn block_at(from: &[u8]) -> Option<RawBlock>
     let high = u64::from_be_bytes([*a, *b, *c, *d, *e, *f, *g, *h]);
     let low = u64::from_be_bytes([*i, *j, *k, *l, *m, *n, *o, *p]);
     Some(RawBlock { high, low })
-}
-
-impl RawBlock {
-    // Whether two blocks have the same numbers.
-    fn equals(self, other: RawBlock) -> bool
-        ensures { Decides result (self ≡ other) }
-    {
-        self.high == other.high && self.low == other.low
-    }
 }
 
 impl CellRow for RawBlock {
@@ -67,7 +58,7 @@ impl CellRow for RawBlock {
     }
 
     fn zero() -> RawBlock {
-        RawBlock { high: 0, low: 0 }
+        RawBlock::default()
     }
 
     fn put(self, out: &mut [u8; 16]) {
@@ -76,13 +67,10 @@ impl CellRow for RawBlock {
     }
 
     fn get(from: &[u8]) -> Result<RawBlock, Fault> {
-        match block_at(from) {
-            Some(block) => Ok(block),
-            None => Err(Fault::new(Refusal::NotACell, Layer::Cell)),
-        }
+        block_at(from).ok_or(not_a_cell())
     }
 
     fn same(self, other: RawBlock) -> bool {
-        self.equals(other)
+        self == other
     }
 }

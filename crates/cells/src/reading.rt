@@ -3,8 +3,9 @@ ghost use Rattle.std.specs.Prelude.{◌≡◌, true};
 ghost use Rattle.cells.specs.Levels.{in_range};
 
 // How far a level can be trusted.
-#[derive(Clone, Copy, PartialEq, Eq, Debug)]
+#[derive(Clone, Copy, PartialEq, Eq, Debug, Default)]
 pub enum Quality {
+    #[default]
     Good = 0,
     Doubtful = 1,
     Estimated = 2,
@@ -12,7 +13,7 @@ pub enum Quality {
 }
 
 // A level in millimetres at a second. None exists whose level is out of the gauge's range.
-#[derive(Clone, Copy)]
+#[derive(Clone, Copy, PartialEq, Eq, Debug)]
 pub struct Reading {
     pub level: i32,
     pub second: u32,
@@ -22,7 +23,7 @@ pub struct Reading {
 
 // A reading as it lies in memory: any three numbers. Where they make no reading, the row stands for the
 // one whose numbers are all 0.
-#[derive(Clone, Copy, Debug)]
+#[derive(Clone, Copy, PartialEq, Eq, Debug, Default)]
 pub struct ReadingRow {
     pub level: i32,
     pub second: u32,

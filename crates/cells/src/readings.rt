@@ -1,13 +1,13 @@
 // What a reading can do, and its nine bytes.
 ghost use Rattle.std.specs.Prelude.{◌≡◌, ℕ, length, replicate, if◌then◌else◌, Some, None, Decides, ◌==◌, nat_eq};
 ghost use Rattle.std.proofs.Common.{ap, ◌∙◌, rules};
-ghost use Rattle.cells.specs.Faults.{answered, not_a_cell};
-ghost use Rattle.cells.specs.Readings.{made, quality_number, quality_of, reading_bytes, reading_of, reading_reads, row_at, row_of, standing, makes, row_bytes};
+ghost use Rattle.cells.specs.Faults.{answered};
+ghost use Rattle.cells.specs.Readings.{made, quality_number, quality_of, reading_bytes, reading_of, reading_reads, row_at, row_of, standing, makes, row_bytes, zeros};
 ghost use Rattle.cells.specs.ReadingBytes.{length-row, bytes-row, makes-standing, row_read, row_back, standing_made};
 ghost use Rattle.std.proofs.lemmas.Bool.{and_from, eq-eqb, and_parts, eqb-true};
 
 use crate::cell::CellRow;
-use crate::fault::{Fault, Layer, Refusal};
+use crate::fault::{Fault, not_a_cell};
 use crate::reading::{Quality, Reading, ReadingRow};
 
 // The lowest and the highest level that a gauge gives, in millimetres.
@@ -15,28 +15,26 @@ const LOWEST: i32 = -50_000;
 
 const HIGHEST: i32 = 500_000;
 
-fn not_a_reading() -> Fault
-    ensures { result ≡ not_a_cell }
-{
-    Fault::new(Refusal::NotACell, Layer::Cell)
+impl From<Quality> for u8 {
+    ghost from_gives = { λ q n. n ≡ quality_number q };
+
+    fn from(quality: Quality) -> u8 {
+        quality as u8
+    }
 }
 
-impl Quality {
-    pub fn number(self) -> u8
-        ensures { result ≡ quality_number self }
-    {
-        self as u8
-    }
+impl TryFrom<u8> for Quality {
+    type Error = Fault;
 
-    pub fn new(number: u8) -> Result<Quality, Fault>
-        ensures { result ≡ quality_of number }
-    {
+    ghost try_from_gives = { λ n r. r ≡ quality_of n };
+
+    fn try_from(number: u8) -> Result<Quality, Fault> {
         match number {
             0 => Ok(Quality::Good),
             1 => Ok(Quality::Doubtful),
             2 => Ok(Quality::Estimated),
             3 => Ok(Quality::Missing),
-            _ => Err(not_a_reading()),
+            _ => Err(not_a_cell()),
         }
     }
 }
@@ -45,8 +43,8 @@ impl Reading {
     pub fn new(level: i32, second: u32, quality: Quality) -> Result<Reading, Fault>
         ensures { answered row_of result ≡ reading_of level second quality }
     {
-        if level < LOWEST || level > HIGHEST {
-            return Err(not_a_reading());
+        if !(LOWEST..=HIGHEST).contains(&level) {
+            return Err(not_a_cell());
         }
         Ok(Reading {
             level,
@@ -54,17 +52,41 @@ impl Reading {
             quality,
         })
     }
+}
 
-    // The row of a reading, which stands for just that reading.
-    pub fn row(self) -> ReadingRow
-        ensures numbers { result ≡ row_of self }
-        ensures stands { standing result ≡ result }
-    {
-        ReadingRow {
-            level: self.level,
-            second: self.second,
-            quality: self.quality.number(),
+impl Default for Reading {
+    ghost is_default = { λ r. row_of r ≡ zeros };
+
+    fn default() -> Reading {
+        Reading {
+            level: 0,
+            second: 0,
+            quality: Quality::Good,
         }
+    }
+}
+
+// The row of a reading, which stands for just that reading.
+impl From<Reading> for ReadingRow {
+    ghost from_gives = { λ r row. (row ≡ row_of r) × (standing row ≡ row) };
+
+    fn from(reading: Reading) -> ReadingRow {
+        ReadingRow {
+            level: reading.level,
+            second: reading.second,
+            quality: u8::from(reading.quality),
+        }
+    }
+}
+
+// The reading that a row's numbers make, if any.
+impl TryFrom<ReadingRow> for Reading {
+    type Error = Fault;
+
+    ghost try_from_gives = { λ row r. answered row_of r ≡ made row };
+
+    fn try_from(row: ReadingRow) -> Result<Reading, Fault> {
+        Reading::new(row.level, row.second, Quality::try_from(row.quality)?)
     }
 }
 
@@ -73,28 +95,7 @@ impl ReadingRow {
     pub fn reading(self) -> Reading
         ensures { row_of result ≡ standing self }
     {
-        match self.numbers() {
-            Ok(reading) => reading,
-            Err(_) => Reading {
-                level: 0,
-                second: 0,
-                quality: Quality::Good,
-            },
-        }
-    }
-
-    // Whether two rows have the same numbers.
-    fn equals(self, other: ReadingRow) -> bool
-        ensures { Decides result (self ≡ other) }
-    {
-        self.level == other.level && self.second == other.second && self.quality == other.quality
-    }
-
-    // The reading that the row's numbers make, if any.
-    fn numbers(self) -> Result<Reading, Fault>
-        ensures { answered row_of result ≡ made self }
-    {
-        Reading::new(self.level, self.second, Quality::new(self.quality)?)
+        Reading::try_from(self).unwrap_or_default()
     }
 }
 
@@ -148,29 +149,23 @@ impl CellRow for ReadingRow {
     }
 
     fn zero() -> ReadingRow {
-        ReadingRow {
-            level: 0,
-            second: 0,
-            quality: 0,
-        }
+        ReadingRow::default()
     }
 
     fn put(self, out: &mut [u8; 16]) {
-        let row = self.reading().row();
+        let row = ReadingRow::from(self.reading());
         let [a, b, c, d] = row.level.to_be_bytes();
         let [e, f, g, h] = row.second.to_be_bytes();
         out[0..9].copy_from_slice(&[a, b, c, d, e, f, g, h, row.quality]);
     }
 
     fn get(from: &[u8]) -> Result<ReadingRow, Fault> {
-        let Some(row) = row_at(from) else {
-            return Err(not_a_reading());
-        };
-        let reading = row.numbers()?;
-        Ok(reading.row())
+        let row = row_at(from).ok_or(not_a_cell())?;
+        let reading = Reading::try_from(row)?;
+        Ok(ReadingRow::from(reading))
     }
 
     fn same(self, other: ReadingRow) -> bool {
-        self.reading().row().equals(other.reading().row())
+        ReadingRow::from(self.reading()) == ReadingRow::from(other.reading())
     }
 }

@@ -1,4 +1,4 @@
-use Rattle.std.proofs.Common.{◌≡◌, ap, rules}
+use Rattle.std.proofs.Common.{◌≡◌, Decides, ap, rules}
 use Rattle.std.proofs.lemmas.Bool.Decides.{Decides-like}
 use Rattle.cells.specs.Raws.{raw_bytes}
 use Rattle.cells.specs.RawBytes.{same_raw}
@@ -8,4 +8,5 @@ pub returns : goal.returns
 returns c =
     let a = c.args.self in
     let b = c.args.other in
-    Decides-like c.equals.result (λ (e : a ≡ b). ap raw_bytes e) (λ e. same_raw a b (search rules) (search rules) (search rules) (search rules) e) c.equals.ensures
+    let told : Decides c.eq.result (a ≡ b) = let e = c.eq.ensures in search rules in
+    Decides-like c.eq.result (λ (e : a ≡ b). ap raw_bytes e) (λ e. same_raw a b (search rules) (search rules) (search rules) (search rules) e) told
