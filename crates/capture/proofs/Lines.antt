@@ -1,15 +1,9 @@
 -- A line read a character at a time gives what the whole line spells. Assumes nothing.
-use Rattle.std.proofs.Common.{◌≡◌, ℕ, ◌+◌, ◌*◌, ◌<◌, ◌≤◌, Bool, true, false, cond, eqb, ltb, leb, List, [], ◌∷◌, ◌++◌, length, take, set, Some, None, Option, sym, refl, ap, ◌∙◌, ⊎_elim, arith, length-append, length-take}
-use Rattle.std.proofs.lemmas.List.{append-nil, append_assoc, length_push, take_more_set}
+use Rattle.std.proofs.Common.{◌≡◌, ℕ, ◌+◌, ◌*◌, ◌<◌, ◌≤◌, Bool, true, false, cond, eqb, ltb, leb, List, [], ◌∷◌, ◌++◌, length, Some, None, Option, sym, refl, ap, ◌∙◌, ⊎_elim, arith, length-append}
+use Rattle.std.proofs.lemmas.List.{append-nil, append_assoc, length_push}
 use Rattle.std.proofs.lemmas.Bool.{cases_lt, cond-true, cond-false, le-leb, lt-leb, lt-ltb, le-ltb}
 use Rattle.capture.specs.Hex.{Due, pair, second, any, digit_of, before, first, paired, spelled, fitting}
-use Rattle.capture.specs.Steps.{LineMeaning, line, joined, opened, closed, ended, read, EveryLineIsRead}
-
--- the byte of a pair, laid behind the others
-pub byte_joined : (bs : List ℕ) (n b : ℕ) → length bs ≡ 136 → n < 136 → line (Some any) (take (n + 1) (set bs n b)) ≡ joined (take n bs) b
-byte_joined bs n b l h =
-    let k : length (take n bs) < 136 = simp length-take (omega arith) in
-    ap (line (Some any)) (take_more_set bs n b (omega arith)) ∙ sym (cond-true (ltb (length (take n bs)) 136) (line (Some any) (take n bs ++ (b ∷ []))) (line None (take n bs)) (lt-ltb (length (take n bs)) 136 k))
+use Rattle.capture.specs.Steps.{LineMeaning, line, opened, closed, ended, read, EveryLineIsRead}
 
 -- bytes before those that the rest of a line spells
 abbrev onto : List ℕ → Option (List ℕ) → Option (List ℕ)

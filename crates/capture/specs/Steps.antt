@@ -1,5 +1,5 @@
 -- Reading a line a character at a time. Assumes nothing.
-use Rattle.std.specs.Prelude.{◌≡◌, ℕ, ◌+◌, ◌*◌, cond, List, [], ◌∷◌, ◌++◌, length, take, Some, None, Option, ◌==◌, nat_lt}
+use Rattle.std.specs.Prelude.{◌≡◌, ℕ, ◌+◌, ◌*◌, cond, List, [], ◌∷◌, ◌++◌, length, Some, None, Option, ◌==◌, nat_lt}
 use Rattle.capture.specs.declared.line.Nibble.{Nibble}
 use Rattle.capture.specs.declared.line.Stage.{Stage}
 use Rattle.capture.specs.declared.line.Stage.TheVariants.{Gap, Half, Joint, Broken}
@@ -21,7 +21,7 @@ due_of Joint = Some any
 due_of Broken = None
 
 abbrev pub line_of : HexLine → LineMeaning
-line_of h = record { due = due_of h.stage; bytes = take h.len h.bytes }
+line_of h = record { due = due_of h.stage; bytes = h.bytes.items }
 
 abbrev pub line : Option Due → List ℕ → LineMeaning
 line d bs = record { due = d; bytes = bs }

@@ -5,8 +5,10 @@ ghost use Rattle.capture.specs.Hex.{digit_of};
 ghost use Rattle.capture.specs.Steps.{EveryLineIsRead, blank, closed, ended, joined, line_of, opened, pushed, value_of};
 
 use crate::line::{HexLine, Nibble, Stage};
+use arrayvec::ArrayVec;
 
-// The value of a hexadecimal digit in either case.
+// The value of a hexadecimal digit in either case. The characters of a capture are its format's own, so they are
+// matched here and not left to `to_digit`.
 fn digit(c: u8) -> Option<Nibble>
     ensures { option_map value_of result ≡ digit_of c }
 {
@@ -22,17 +24,6 @@ fn digit(c: u8) -> Option<Nibble>
     }
 }
 
-// A line without a character.
-fn empty() -> HexLine
-    ensures { line_of result ≡ blank }
-{
-    HexLine {
-        bytes: [0; 136],
-        len: 0,
-        stage: Stage::Gap,
-    }
-}
-
 impl HexLine {
     // A line of which nothing has been read. Pushed a character after the other, every line gives its
     // datagram, or none where it has none.
@@ -40,7 +31,10 @@ impl HexLine {
         ensures begun { line_of result ≡ blank }
         ensures every { EveryLineIsRead }
     {
-        empty()
+        HexLine {
+            bytes: ArrayVec::new(),
+            stage: Stage::Gap,
+        }
     }
 
     // One character of the line.
@@ -48,15 +42,9 @@ impl HexLine {
         ensures { line_of self.new ≡ pushed (line_of self.old) c }
     {
         match self.stage {
-            Stage::Gap => self.open(c),
+            Stage::Joint if c == b' ' => self.stage = Stage::Gap,
+            Stage::Gap | Stage::Joint => self.open(c),
             Stage::Half(high) => self.close(high, c),
-            Stage::Joint => {
-                if c == b' ' {
-                    self.stage = Stage::Gap;
-                } else {
-                    self.open(c);
-                }
-            }
             Stage::Broken => {}
         }
     }
@@ -85,13 +73,10 @@ impl HexLine {
     fn byte(&mut self, b: u8)
         ensures { line_of self.new ≡ joined (line_of self.old).bytes b }
     {
-        if self.len == 136 {
-            self.stage = Stage::Broken;
-            return;
-        }
-        self.bytes[self.len] = b;
-        self.len += 1;
-        self.stage = Stage::Joint;
+        self.stage = match self.bytes.try_push(b) {
+            Ok(()) => Stage::Joint,
+            Err(_) => Stage::Broken,
+        };
     }
 
     // The datagram, if the line ends here.
@@ -99,7 +84,7 @@ impl HexLine {
         ensures { option_map (λ x. x.now) result ≡ ended (line_of self.now) }
     {
         match self.stage {
-            Stage::Joint => Some(&self.bytes[0..self.len]),
+            Stage::Joint => Some(self.bytes.as_slice()),
             _ => None,
         }
     }

@@ -1,15 +1,17 @@
 // A line of a capture, as far as it has been read.
-ghost use Rattle.std.specs.Prelude.{◌≡◌, ℕ, ◌<◌, ◌≤◌, length};
+ghost use Rattle.std.specs.Prelude.{◌<◌};
+
+use arrayvec::ArrayVec;
 
 // The value of a hexadecimal digit.
-#[derive(Clone, Copy)]
+#[derive(Clone, Copy, PartialEq, Eq, Debug)]
 pub struct Nibble {
     pub value: u8,
     ghost small: { value < 16 },
 }
 
 // Where in a line the last character was.
-#[derive(Clone, Copy)]
+#[derive(Clone, Copy, PartialEq, Eq, Debug)]
 pub enum Stage {
     // At the start or after a space: a pair has to follow.
     Gap,
@@ -24,9 +26,6 @@ pub enum Stage {
 // The bytes of a line's pairs, at most as many as a datagram has.
 #[derive(Drop)]
 pub struct HexLine {
-    pub(crate) bytes: [u8; 136],
-    pub(crate) len: usize,
+    pub(crate) bytes: ArrayVec<u8, 136>,
     pub(crate) stage: Stage,
-    ghost room: { length bytes ≡ 136 },
-    ghost within: { len ≤ 136 },
 }

@@ -1,5 +1,5 @@
 use Rattle.capture.proofs.Lines.{every_line_is_read}
 use Rattle.capture.proofs.line.HexLine.new.Goals as goal
 
-pub returns : goal.returns
-returns c = record { begun = c.empty.ensures; every = every_line_is_read }
+pub returns-clause-every : goal.returns-clause-every
+returns-clause-every c = every_line_is_read
