@@ -24,6 +24,14 @@ fn digit(c: u8) -> Option<Nibble>
     }
 }
 
+impl Default for HexLine {
+    ghost is_default = { λ l. line_of l ≡ blank };
+
+    fn default() -> HexLine {
+        HexLine::new()
+    }
+}
+
 impl HexLine {
     // A line of which nothing has been read. Pushed a character after the other, every line gives its
     // datagram, or none where it has none.

@@ -25,7 +25,7 @@ mod tests {
         match reading_at(500_001) {
             Ok(_) => Err(Fail::new("made")),
             Err(fault) => {
-                assert!(rt; fault.refusal.number() == 13 && fault.layer == Layer::Cell);
+                assert!(rt; u8::from(fault.refusal) == 13 && fault.layer == Layer::Cell);
                 assert!(rt;
                     fault.side == Some(Side::Standby) && fault.cycle == 7 && fault.volume == None
                 );
@@ -37,7 +37,7 @@ mod tests {
     #[test]
     fn a_group_fault_names_its_volume(rt: HostRuntime) {
         let fault = Fault::in_volume(Refusal::ReadOnly, 3).at(Side::Primary, 1);
-        assert!(rt; fault.refusal.number() == 6 && fault.layer == Layer::Group);
+        assert!(rt; u8::from(fault.refusal) == 6 && fault.layer == Layer::Group);
         assert!(rt; fault.volume == Some(3) && fault.side == Some(Side::Primary));
     }
 

@@ -60,7 +60,7 @@ mod tests {
     }
 
     fn is_fault(rt: &impl Abort, fault: Fault, number: u8, layer: Layer) {
-        assert!(rt; fault.refusal.number() == number && fault.layer == layer);
+        assert!(rt; u8::from(fault.refusal) == number && fault.layer == layer);
         assert!(rt; fault.side == None && fault.cycle == 0 && fault.volume == None);
     }
 

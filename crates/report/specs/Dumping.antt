@@ -1,6 +1,7 @@
 -- A capture read a byte at a time. Assumes nothing.
-use Rattle.std.specs.Prelude.{◌≡◌, ℕ, Bool, true, false, cond, List, [], ◌∷◌, ◌++◌, ◌==◌, ◌≢◌}
+use Rattle.std.specs.Prelude.{◌≡◌, ℕ, Bool, true, false, cond, List, [], ◌∷◌, ◌++◌, Some, None, Option, is_some, ◌==◌, ◌≢◌}
 use Rattle.capture.specs.Hex.{datagram_of}
+use Rattle.capture.specs.declared.line.HexLine.{HexLine}
 use Rattle.capture.specs.Steps.{LineMeaning, line_of, blank, pushed, ended}
 use Rattle.report.specs.declared.tally.Tally.{Tally}
 use Rattle.report.specs.Reports.{heard, line_outcome}
@@ -13,8 +14,13 @@ pub record DumpMeaning : Type 0 where
   pub begun : Bool
   pub tally : Tally
 
-abbrev pub dump_of : Dumper → DumpMeaning
-dump_of d = record { line = line_of d.line; begun = d.begun; tally = d.tally }
+-- the line, if it has begun, as far as it has been read
+abbrev pub line_begun : Option HexLine → LineMeaning
+line_begun None = blank
+line_begun (Some l) = line_of l
+
+abbrev pub dump_of : {R W : Type 0} → Dumper R W → DumpMeaning
+dump_of d = record { line = line_begun d.line; begun = is_some d.line; tally = d.tally }
 
 abbrev pub started : DumpMeaning
 started = record { line = blank; begun = false; tally = none }

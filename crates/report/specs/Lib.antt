@@ -1,5 +1,4 @@
 pub mod Lines
-pub mod Texts
 pub mod Reports
 pub mod Tallies
 pub mod Dumping

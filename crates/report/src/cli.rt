@@ -1,5 +1,5 @@
 // The command line of framedump.
-ghost use Rattle.std.specs.Prelude.{ℕ};
+ghost use Rattle.std.specs.Result.{result_ok};
 ghost use Rattle.report.specs.Kinds.{Named};
 
 use crate::dump::dump;
@@ -8,23 +8,29 @@ use cells::reading::ReadingRow;
 use std::env;
 use std::io::{BufWriter, Write};
 use std::process::ExitCode;
+use std::str::FromStr;
 
 // The kind of cells that a capture has.
-#[derive(Clone, Copy)]
+#[derive(Clone, Copy, PartialEq, Eq, Debug)]
 pub enum Kind {
     Raw,
     Reading,
 }
 
-impl Kind {
-    // The kind that a word names.
-    pub fn named(word: &str) -> Option<Kind>
-        ensures { Named word.now result }
-    {
+// A word that names no kind.
+#[derive(Clone, Copy, PartialEq, Eq, Debug)]
+pub struct UnknownKind;
+
+impl FromStr for Kind {
+    type Err = UnknownKind;
+
+    ghost from_str_gives = { λ word r. Named word (result_ok r) };
+
+    fn from_str(word: &str) -> Result<Kind, UnknownKind> {
         match word {
-            "raw" => Some(Kind::Raw),
-            "reading" => Some(Kind::Reading),
-            _ => None,
+            "raw" => Ok(Kind::Raw),
+            "reading" => Ok(Kind::Reading),
+            _ => Err(UnknownKind),
         }
     }
 }
@@ -32,14 +38,10 @@ impl Kind {
 // The only argument names the kind.
 fn kind_asked(rt: &HostRuntime) -> anyhow::Result<Option<Kind>> {
     let mut args = env::args(rt)?.skip(1);
-    let kind = match args.next() {
-        Some(word) => Kind::named(word.as_str()),
-        None => None,
-    };
-    if args.next().is_some() {
-        return Ok(None);
+    match (args.next(), args.next()) {
+        (Some(word), None) => Ok(word.parse().ok()),
+        _ => Ok(None),
     }
-    Ok(kind)
 }
 
 fn dump_as(rt: &HostRuntime, kind: Kind) -> anyhow::Result<()> {

@@ -6,85 +6,93 @@ ghost use Rattle.report.specs.Tallies.{tally_text};
 ghost use Rattle.report.specs.Dumping.{EveryLineIsCounted, byte_read, bytes_read, dump_of, finished, line_ended, started};
 
 use crate::tally::Tally;
-use crate::text::CellText;
 use crate::told::push_line;
 use capture::line::HexLine;
+use cells::text::CellText;
 use std::alloc::Global;
 use std::io::{Read, Write};
+use std::marker::PhantomData;
 
-// What is known between two bytes of a capture.
+// What is known between two bytes of a capture of cells of the kind `R`, and where its lines are told.
 #[derive(Drop)]
-pub struct Dumper {
-    line: HexLine,
-    // Whether the line has a character yet.
-    begun: bool,
+pub struct Dumper<'w, R, W> {
+    kind: PhantomData<R>,
+    // The line that is being read, once it has a character.
+    line: Option<HexLine>,
     // The text that is told of a line.
     text: String,
     tally: Tally,
+    output: &'w mut W,
 }
 
-impl Dumper {
-    fn new(heap: Global) -> Dumper
+impl<'w, R: CellText, W: Write> Dumper<'w, R, W> {
+    fn new(heap: Global, output: &'w mut W) -> Dumper<'w, R, W>
         ensures { dump_of result ≡ started }
     {
         Dumper {
-            line: HexLine::new(),
-            begun: false,
+            kind: PhantomData,
+            line: None,
             text: String::new(heap),
             tally: Tally::new(),
+            output,
         }
     }
 
     // Tells the line that ends here.
-    fn end_line<R: CellText, W: Write>(&mut self, output: &mut W) -> anyhow::Result<()>
+    fn end_line(&mut self) -> anyhow::Result<()>
         ensures after { OnOk result (dump_of self.new ≡ line_ended R.CellRow.width R.CellRow.reads (dump_of self.old)) }
         ensures text { OnOk result (string_bytes self.new.text ≡ line_text R.CellText.text (heard R.CellRow.width R.CellRow.reads (ended (dump_of self.old).line))) }
     {
+        let line = self.line.take().unwrap_or_default();
         self.text.clear();
-        let outcome = push_line::<R>(&self.line, &mut self.text)?;
+        let outcome = push_line::<R>(&line, &mut self.text)?;
         self.tally.count(outcome);
-        self.line = HexLine::new();
-        self.begun = false;
-        output.write_all(self.text.as_bytes())?;
-        output.write_all(b"\n")?;
+        self.tell()
+    }
+
+    // Hands the text on, as a line.
+    fn tell(&mut self) -> anyhow::Result<()>
+        ensures { OnOk result ((dump_of self.new ≡ dump_of self.old) × (string_bytes self.new.text ≡ string_bytes self.old.text)) }
+    {
+        self.output.write_all(self.text.as_bytes())?;
+        self.output.write_all(b"\n")?;
         Ok(())
     }
 
     // One byte of the capture.
-    fn byte<R: CellText, W: Write>(&mut self, b: u8, output: &mut W) -> anyhow::Result<()>
+    fn byte(&mut self, b: u8) -> anyhow::Result<()>
         ensures { OnOk result (dump_of self.new ≡ byte_read R.CellRow.width R.CellRow.reads (dump_of self.old) b) }
     {
         if b == b'\n' {
-            return self.end_line::<R, W>(output);
+            return self.end_line();
         }
-        self.line.push(b);
-        self.begun = true;
+        let mut line = self.line.take().unwrap_or_default();
+        line.push(b);
+        self.line = Some(line);
         Ok(())
     }
 
     // The bytes of the capture that were read at once.
-    fn bytes<R: CellText, W: Write>(&mut self, chunk: &[u8], output: &mut W) -> anyhow::Result<()>
+    fn bytes(&mut self, chunk: &[u8]) -> anyhow::Result<()>
         ensures { OnOk result (dump_of self.new ≡ bytes_read R.CellRow.width R.CellRow.reads (dump_of self.old) chunk.now) }
     {
         for b in chunk {
-            self.byte::<R, W>(*b, output)?;
+            self.byte(*b)?;
         }
         Ok(())
     }
 
     // Tells a last line that lacks its line feed, and then the summary.
-    fn finish<R: CellText, W: Write>(&mut self, output: &mut W) -> anyhow::Result<()>
+    fn finish(&mut self) -> anyhow::Result<()>
         ensures after { OnOk result (dump_of self.new ≡ finished R.CellRow.width R.CellRow.reads (dump_of self.old)) }
         ensures text { OnOk result (string_bytes self.new.text ≡ tally_text (dump_of self.new).tally) }
     {
-        if self.begun {
-            self.end_line::<R, W>(output)?;
+        if self.line.is_some() {
+            self.end_line()?;
         }
         self.text.clear();
-        self.tally.push_summary(&mut self.text)?;
-        output.write_all(self.text.as_bytes())?;
-        output.write_all(b"\n")?;
-        Ok(())
+        write!(self.text, "{}", self.tally)?;
+        self.tell()
     }
 }
 
@@ -94,16 +102,16 @@ fn tell_all<R: CellText, I: Read, W: Write>(
     input: &mut I,
     output: &mut W,
 ) -> anyhow::Result<()> {
-    let mut dumper = Dumper::new(heap);
+    let mut dumper: Dumper<R, W> = Dumper::new(heap, output);
     let mut chunk = [0; 4096];
     for _ in 0..u64::MAX {
         let n = input.read(&mut chunk)?;
         if n == 0 {
             break;
         }
-        dumper.bytes::<R, W>(&chunk[0..n], output)?;
+        dumper.bytes(&chunk[0..n])?;
     }
-    dumper.finish::<R, W>(output)
+    dumper.finish()
 }
 
 // Reads the input to its end, and writes a line for each line of it, and a summary. Read so, each line of any

@@ -4,5 +4,4 @@
 pub mod cli;
 pub mod dump;
 pub mod tally;
-pub mod text;
 pub mod told;

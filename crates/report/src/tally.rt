@@ -1,6 +1,5 @@
 // How datagrams were told, and how often.
-ghost use Rattle.std.specs.Prelude.{◌≡◌, ℕ, string_bytes};
-ghost use Rattle.report.specs.Lines.{Appended};
+ghost use Rattle.std.specs.Prelude.{◌≡◌, ℕ, Some};
 ghost use Rattle.report.specs.Tallies.{counted, more, none, tally_text};
 
 use std::fmt;
@@ -19,7 +18,7 @@ pub enum Outcome {
 }
 
 // How many lines there were, and how many of each outcome.
-#[derive(Clone, Copy, Debug)]
+#[derive(Clone, Copy, PartialEq, Eq, Debug, Default)]
 pub struct Tally {
     pub datagrams: u64,
     pub entries: u64,
@@ -40,15 +39,7 @@ impl Tally {
     pub fn new() -> Tally
         ensures { result ≡ none }
     {
-        Tally {
-            datagrams: 0,
-            entries: 0,
-            markers: 0,
-            held: 0,
-            whole: 0,
-            refused: 0,
-            unreadable: 0,
-        }
+        Tally::default()
     }
 
     // One more line, of this outcome.
@@ -65,11 +56,13 @@ impl Tally {
             Outcome::Unreadable => count_one(&mut self.unreadable),
         }
     }
+}
 
-    // Appends the summary of a capture.
-    pub fn push_summary(&self, line: &mut String) -> fmt::Result
-        ensures { Appended result (string_bytes line.old) (tally_text self.now) (string_bytes line.new) }
-    {
+// The summary of a capture.
+impl fmt::Display for Tally {
+    ghost output = { λ t. Some (tally_text t) };
+
+    fn fmt<W: fmt::Write>(&self, f: &mut fmt::Formatter<W>) -> fmt::Result {
         let Tally {
             datagrams,
             entries,
@@ -80,13 +73,12 @@ impl Tally {
             unreadable,
         } = *self;
         write!(
-            line,
+            f,
             "{datagrams} datagrams: {entries} entries, {markers} markers, {held} held, "
         )?;
         write!(
-            line,
+            f,
             "{whole} whole, {refused} refused, {unreadable} unreadable"
-        )?;
-        Ok(())
+        )
     }
 }

@@ -8,22 +8,26 @@ ghost use Rattle.report.specs.Lines.{Appended};
 ghost use Rattle.report.specs.Reports.{Told, answer_outcome, answer_text, entries_text, entry_text, frame_outcome, frame_text, heard, held_text, line_outcome, line_text};
 
 use crate::tally::Outcome;
-use crate::text::CellText;
 use capture::line::HexLine;
+use cells::text::CellText;
 use frames::frame::{Entries, Frame, Held};
 use frames::reader::read;
-use std::fmt;
+use std::alloc::AllocError;
 
 // One entry of a page.
-fn push_entry<R: CellText>(address: usize, cell: R, line: &mut String) -> fmt::Result
+fn push_entry<R: CellText>(address: usize, cell: R, line: &mut String) -> Result<(), AllocError>
     ensures { Appended result (string_bytes line.old) (entry_text R.CellText.text address (R.CellRow.bytes cell)) (string_bytes line.new) }
 {
-    write!(line, " {address}=")?;
-    cell.push_text(line)
+    write!(line, " {address}={cell}")
 }
 
 // The entries of a page whose bit stands.
-fn push_cells<R: CellText>(page: u16, map: u8, cells: &[R], line: &mut String) -> fmt::Result
+fn push_cells<R: CellText>(
+    page: u16,
+    map: u8,
+    cells: &[R],
+    line: &mut String,
+) -> Result<(), AllocError>
     requires { length cells.now ≡ 8 }
     ensures { Appended result (string_bytes line.old) (entries_text R.CellText.text (8 * page) (places R.CellRow.bytes map cells.now)) (string_bytes line.new) }
 {
@@ -36,7 +40,7 @@ fn push_cells<R: CellText>(page: u16, map: u8, cells: &[R], line: &mut String) -
     Ok(())
 }
 
-fn push_entries<R: CellText>(entries: &Entries<R>, line: &mut String) -> fmt::Result
+fn push_entries<R: CellText>(entries: &Entries<R>, line: &mut String) -> Result<(), AllocError>
     ensures { Appended result (string_bytes line.old) (frame_text R.CellText.text (of_entries R.CellRow.bytes entries.now)) (string_bytes line.new) }
 {
     let cycle = entries.cycle;
@@ -46,7 +50,7 @@ fn push_entries<R: CellText>(entries: &Entries<R>, line: &mut String) -> fmt::Re
 }
 
 // The addresses of a page whose bit stands.
-fn push_addresses(page: u16, map: u8, line: &mut String) -> fmt::Result
+fn push_addresses(page: u16, map: u8, line: &mut String) -> Result<(), AllocError>
     ensures { Appended result (string_bytes line.old) (held_text 8 (8 * page) map) (string_bytes line.new) }
 {
     let first = 8 * page as usize;
@@ -59,7 +63,7 @@ fn push_addresses(page: u16, map: u8, line: &mut String) -> fmt::Result
     Ok(())
 }
 
-fn push_held<R: CellText>(held: &Held, line: &mut String) -> fmt::Result
+fn push_held<R: CellText>(held: &Held, line: &mut String) -> Result<(), AllocError>
     ensures { Appended result (string_bytes line.old) (frame_text R.CellText.text (of_held held.now)) (string_bytes line.new) }
 {
     let cycle = held.cycle;
@@ -69,7 +73,7 @@ fn push_held<R: CellText>(held: &Held, line: &mut String) -> fmt::Result
 }
 
 // A frame as text.
-pub fn push_frame<R: CellText>(frame: &Frame<R>, line: &mut String) -> fmt::Result
+pub fn push_frame<R: CellText>(frame: &Frame<R>, line: &mut String) -> Result<(), AllocError>
     ensures { Appended result (string_bytes line.old) (frame_text R.CellText.text (meaning R.CellRow.bytes frame.now)) (string_bytes line.new) }
 {
     match frame {
@@ -102,7 +106,7 @@ fn outcome_of<R: CellText>(frame: &Frame<R>) -> Outcome
 }
 
 // A datagram as text: the frame that it is, or the number it is refused with.
-pub fn push_datagram<R: CellText>(bytes: &[u8], line: &mut String) -> Result<Outcome, fmt::Error>
+pub fn push_datagram<R: CellText>(bytes: &[u8], line: &mut String) -> Result<Outcome, AllocError>
     ensures { Told result (answer_outcome (decoded R.CellRow.width R.CellRow.reads bytes.now)) (string_bytes line.old) (answer_text R.CellText.text (decoded R.CellRow.width R.CellRow.reads bytes.now)) (string_bytes line.new) }
 {
     match read::<R>(bytes) {
@@ -111,15 +115,14 @@ pub fn push_datagram<R: CellText>(bytes: &[u8], line: &mut String) -> Result<Out
             Ok(outcome_of(&frame))
         }
         Err(fault) => {
-            let number = fault.refusal.number();
-            write!(line, "refused {number}")?;
+            write!(line, "refused {}", fault.refusal)?;
             Ok(Outcome::Refused)
         }
     }
 }
 
 // A line of a capture as text: its datagram, or `?` where it has none.
-pub fn push_line<R: CellText>(line: &HexLine, text: &mut String) -> Result<Outcome, fmt::Error>
+pub fn push_line<R: CellText>(line: &HexLine, text: &mut String) -> Result<Outcome, AllocError>
     ensures { Told result (line_outcome (heard R.CellRow.width R.CellRow.reads (ended (line_of line.now)))) (string_bytes text.old) (line_text R.CellText.text (heard R.CellRow.width R.CellRow.reads (ended (line_of line.now)))) (string_bytes text.new) }
 {
     match line.datagram() {

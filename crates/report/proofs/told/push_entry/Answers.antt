@@ -1,11 +1,8 @@
-use Rattle.std.proofs.Common.{◌≡◌, ◌++◌, string_bytes, codes, decimal, rules}
-use Rattle.report.proofs.Telling.{entry_told}
+use Rattle.std.proofs.Common.{ℕ, List, Some, codes, decimal, string_bytes, Option, subst, rules}
+use Rattle.std.specs.Fmt.{AppendsText, ◌++?◌}
 use Rattle.report.proofs.told.push_entry.Goals as goal
 
 pub returns : goal.returns
-returns g c =
-    let old = string_bytes c.args.line.now in
-    let mid = string_bytes c.write.new.self in
-    let a = c.args.address in
-    let first : mid ≡ old ++ (codes " " ++ (decimal a ++ codes "=")) = search rules in
-    λ ok. entry_told g.R.CellText.text a (g.R.CellRow.bytes c.args.cell) old mid (string_bytes c.push_text.new.line) first (c.push_text.ensures ok)
+returns g c = λ ok.
+    subst (λ (o : Option (List ℕ)). AppendsText (string_bytes c.args.line.now) (string_bytes c.write.new.self) (Some (codes " ") ++? (Some (decimal c.args.address) ++? (Some (codes "=") ++? o))))
+    (g.met.R.CellText.told c.args.cell) (let w = c.write.ensures.bytes in search rules)
