@@ -1,6 +1,7 @@
 // Carrying cells as frames.
 ghost use Rattle.std.specs.Prelude.{◌≡◌};
-ghost use Rattle.carry_day.specs.Carried.{carrying, frame_of, sent_answer, sent_meaning};
+ghost use Rattle.carry_day.specs.Carried.{frame_of, sent_answer, sent_meaning};
+ghost use Rattle.links.specs.Queued.{queue_of};
 
 use cells::fault::Fault;
 use cells::reading::ReadingRow;
@@ -15,7 +16,7 @@ use links::queue::Queue;
 // Sends a cell as an entries frame of its page.
 pub(crate) fn send_cell(queue: &mut Queue, address: u16, cell: ReadingRow) -> Result<(), Fault>
     ensures answer { result ≡ sent_answer (frame_of address cell) }
-    ensures after { carrying queue.new ≡ sent_meaning (frame_of address cell) (carrying queue.old) }
+    ensures after { queue_of queue.new ≡ sent_meaning (frame_of address cell) (queue_of queue.old) }
 {
     let entries = Entries::new(1, address / 8, 1 << (address % 8), [cell; 8])?;
     let mut bytes = [0; 136];
