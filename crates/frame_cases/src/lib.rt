@@ -70,7 +70,7 @@ mod tests {
         };
         match &frame {
             Frame::Entries(e) => {
-                assert!(rt; e.cycle == 1 && e.page == 0 && e.map == 4);
+                assert!(rt; e.page.cycle == 1 && e.page.number == 0 && e.page.map == 4);
                 assert!(rt;
                     e.cells[2].level == -5 && e.cells[2].second == 60 && e.cells[2].quality == 0
                 );

@@ -19,18 +19,18 @@ use Rattle.frames.proofs.RoundTrip.{length-bodies, decoded-encoded}
 use Rattle.frames.proofs.Exactness.{exact}
 
 module _ {R : Type 0} (bytes : R → List ℕ) (reads : List ℕ → Bool) (w : ℕ) (read : (r : R) → reads (bytes r) ≡ true) (wide : (r : R) → length (bytes r) ≡ w) where
-  kept_map : (e : Entries R) → map_of (places bytes e.map e.cells) ≡ e.map
-  kept_map e = map_of-places bytes e.map e.cells (subst (λ (n : ℕ). e.map < 2 ^ n) (sym e.eight) e.some.1)
+  kept_map : (e : Entries R) → map_of (places bytes e.page.map e.cells) ≡ e.page.map
+  kept_map e = map_of-places bytes e.page.map e.cells (subst (λ (n : ℕ). e.page.map < 2 ^ n) (sym e.eight) e.page.some.1)
 
   formed : (f : Frame R) → Formed w (meaning bytes f)
   formed (variant.Entries e) =
-      (e.numbered, e.paged, length-places bytes e.map e.cells ∙ e.eight, subst (λ (n : ℕ). 1 ≤ n) (sym (kept_map e)) e.some.0, wide-places bytes reads w read wide e.map e.cells)
+      (e.page.numbered, e.page.paged, length-places bytes e.page.map e.cells ∙ e.eight, subst (λ (n : ℕ). 1 ≤ n) (sym (kept_map e)) e.page.some.0, wide-places bytes reads w read wide e.page.map e.cells)
   formed (variant.Marker m) = (m.numbered, m.counted)
-  formed (variant.Held h) = (h.numbered, h.paged, h.some.0, h.some.1)
+  formed (variant.Held h) = (h.page.numbered, h.page.paged, h.page.some.0, h.page.some.1)
   formed (variant.Whole v) = v.numbered
 
   kept_all_read : (f : Frame R) → cells_read reads (meaning bytes f) ≡ true
-  kept_all_read (variant.Entries e) = read_places bytes reads w read wide e.map e.cells
+  kept_all_read (variant.Entries e) = read_places bytes reads w read wide e.page.map e.cells
   kept_all_read (variant.Marker m) = refl
   kept_all_read (variant.Held h) = refl
   kept_all_read (variant.Whole v) = refl
@@ -45,13 +45,13 @@ module _ {R : Type 0} (bytes : R → List ℕ) (reads : List ℕ → Bool) (w : 
   -- a frame has 5 to 136 bytes
   pub bounded : w ≤ 16 → (f : Frame R) → (5 ≤ length (encoded (meaning bytes f))) × (length (encoded (meaning bytes f)) ≤ 136)
   bounded h (variant.Entries e) =
-      let ps = places bytes e.map e.cells in
-      let l = length-paged 7 e.cycle e.page (map_of ps ∷ bodies ps) in
-      let b : length (bodies ps) ≡ ones e.map * w = length-bodies w ps (wide-places bytes reads w read wide e.map e.cells) ∙ ap (λ (n : ℕ). ones n * w) (kept_map e) in
-      let m = mul-le (ones e.map) w 8 16 (ones-le 8 e.map e.some.1) h in
+      let ps = places bytes e.page.map e.cells in
+      let l = length-paged 7 e.page.cycle e.page.number (map_of ps ∷ bodies ps) in
+      let b : length (bodies ps) ≡ ones e.page.map * w = length-bodies w ps (wide-places bytes reads w read wide e.page.map e.cells) ∙ ap (λ (n : ℕ). ones n * w) (kept_map e) in
+      let m = mul-le (ones e.page.map) w 8 16 (ones-le 8 e.page.map e.page.some.1) h in
       (omega arith, omega arith)
   bounded h (variant.Marker m) = let l = length-marker m.cycle m.count in (omega arith, omega arith)
-  bounded h (variant.Held v) = let l = length-paged 19 v.cycle v.page (v.map ∷ []) in (omega arith, omega arith)
+  bounded h (variant.Held v) = let l = length-paged 19 v.page.cycle v.page.number (v.page.map ∷ []) in (omega arith, omega arith)
   bounded h (variant.Whole v) = let l = length_whole v.cycle in (omega arith, omega arith)
 
   -- an answer to reading, by what the program writes

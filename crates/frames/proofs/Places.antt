@@ -28,7 +28,7 @@ module _ {R : Type 0} (bytes : R → List ℕ) where
   place_down m r h = simp (ne_eqb (m % 2) 1 h)
 
   -- a statement about the first place, by its bit
-  by_bit : (P : Option (List ℕ) → Type 0) (m : ℕ) (r : R) → (m % 2 ≡ 1 → P (Some (bytes r))) → ((m % 2 ≡ 1 → ⊥) → P None) → P (place bytes m r)
+  pub by_bit : (P : Option (List ℕ) → Type 0) (m : ℕ) (r : R) → (m % 2 ≡ 1 → P (Some (bytes r))) → ((m % 2 ≡ 1 → ⊥) → P None) → P (place bytes m r)
   by_bit P m r up down = ⊎_elim (λ b. subst P (sym (place_up m r b)) (up b)) (λ b. subst P (sym (place_down m r b)) (down b)) (cases_eq (m % 2) 1)
 
   pub some_at : (rs : List R) (i : ℕ) → i < length rs → (r : R) × (r ≡ get_or rs i r)

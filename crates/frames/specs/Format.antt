@@ -17,6 +17,10 @@ numbered c = nat_le 1 c && nat_lt c 4294967295
 abbrev pub paged : ℕ → ℕ → ℕ → Bool
 paged c p m = numbered c && (nat_le p 511 && nat_le 1 m)
 
+-- the numbers of a page, or the refusal
+abbrev pub page_of : ℕ → ℕ → ℕ → Result (ℕ × ℕ × ℕ) Fault
+page_of c p m = cond (paged c p m) (Ok (c, p, m)) (Err not_a_frame)
+
 -- the frame of fields that were read, or the refusal
 abbrev pub marker_of : ℕ → ℕ → Result FrameMeaning Fault
 marker_of c n = cond (numbered c && nat_le n 4096) (Ok (marker c n)) (Err not_a_frame)

@@ -5,6 +5,7 @@ use Rattle.cells.specs.Faults.{not_a_cell}
 use Rattle.frames.specs.declared.frame.Entries.{Entries}
 use Rattle.frames.specs.declared.frame.Marker.{Marker}
 use Rattle.frames.specs.declared.frame.Held.{Held}
+use Rattle.frames.specs.declared.frame.Page.{Page}
 use Rattle.frames.specs.declared.frame.Whole.{Whole}
 use Rattle.frames.specs.declared.frame.Frame.{Frame}
 use Rattle.frames.specs.declared.frame.Frame.TheVariants as variant
@@ -19,14 +20,18 @@ abbrev pub places : {R : Type 0} → (R → List ℕ) → ℕ → List R → Pla
 places bytes m [] = []
 places bytes m (r ∷ rs) = place bytes m r ∷ places bytes (m / 2) rs
 
+-- the three numbers of a page
+abbrev pub of_page : Page → ℕ × ℕ × ℕ
+of_page p = (p.cycle, p.number, p.map)
+
 abbrev pub of_entries : {R : Type 0} → (R → List ℕ) → Entries R → FrameMeaning
-of_entries bytes e = entries e.cycle e.page (places bytes e.map e.cells)
+of_entries bytes e = entries e.page.cycle e.page.number (places bytes e.page.map e.cells)
 
 abbrev pub of_marker : Marker → FrameMeaning
 of_marker m = marker m.cycle m.count
 
 abbrev pub of_held : Held → FrameMeaning
-of_held h = held h.cycle h.page h.map
+of_held h = held h.page.cycle h.page.number h.page.map
 
 abbrev pub of_whole : Whole → FrameMeaning
 of_whole w = whole w.cycle

@@ -1,4 +1,5 @@
 pub mod Meaning
 pub mod Format
+pub mod Addressed
 pub mod Frames
 pub mod Figures

@@ -1,17 +1,23 @@
 // Frames, one to a datagram. None can be made that reading would refuse.
 ghost use Rattle.std.specs.Prelude.{◌≡◌, ℕ, ◌<◌, ◌≤◌, length};
 
-// Entries of one page of a cycle's delta set. Bit i of the map says whether `cells[i]`, the entry at
-// address 8 × page + i, is there; rows whose bit is down mean nothing.
+// Addresses of one page of a cycle's delta set, at least one: bit i of the map says whether the address
+// 8 × number + i is among them.
+#[derive(Clone, Copy)]
+pub struct Page {
+    pub cycle: u32,
+    pub number: u16,
+    pub map: u8,
+    ghost numbered: { (1 ≤ cycle) × (cycle < 4294967295) },
+    ghost paged: { number ≤ 511 },
+    ghost some: { (1 ≤ map) × (map < 256) },
+}
+
+// Entries of the addresses of a page: `cells[i]` for bit i. Rows whose bit is down mean nothing.
 #[derive(Drop)]
 pub struct Entries<R> {
-    pub cycle: u32,
-    pub page: u16,
-    pub map: u8,
+    pub page: Page,
     pub cells: [R; 8],
-    ghost numbered: { (1 ≤ cycle) × (cycle < 4294967295) },
-    ghost paged: { page ≤ 511 },
-    ghost some: { (1 ≤ map) × (map < 256) },
     ghost eight: { length cells ≡ 8 },
 }
 
@@ -24,15 +30,10 @@ pub struct Marker {
     ghost counted: { count ≤ 4096 },
 }
 
-// The addresses of one page that the standby holds of a cycle's delta set.
+// The addresses of a page that the standby holds.
 #[derive(Clone, Copy)]
 pub struct Held {
-    pub cycle: u32,
-    pub page: u16,
-    pub map: u8,
-    ghost numbered: { (1 ≤ cycle) × (cycle < 4294967295) },
-    ghost paged: { page ≤ 511 },
-    ghost some: { (1 ≤ map) × (map < 256) },
+    pub page: Page,
 }
 
 // The standby holds the cycle's delta set whole. Cycle 0 is that of a standby that has none yet.

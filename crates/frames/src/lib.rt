@@ -1,6 +1,7 @@
 // Frames, written into bytes and read from them, over any kind of cell.
 #![tactic(auto)]
 
+pub mod addresses;
 pub mod figures;
 pub mod frame;
 pub mod make;

@@ -1,10 +1,10 @@
 // Making frames of numbers: only such as can be read again.
 ghost use Rattle.std.specs.Prelude.{◌≡◌, ℕ};
 ghost use Rattle.cells.specs.Faults.{answered, not_a_frame};
-ghost use Rattle.frames.specs.Format.{entries_of, held_of, marker_of, paged, whole_of};
-ghost use Rattle.frames.specs.Frames.{of_entries, of_held, of_marker, of_whole, places};
+ghost use Rattle.frames.specs.Format.{entries_of, held_of, marker_of, page_of, whole_of};
+ghost use Rattle.frames.specs.Frames.{of_entries, of_held, of_marker, of_page, of_whole, places};
 
-use crate::frame::{Entries, Held, Marker, Whole};
+use crate::frame::{Entries, Held, Marker, Page, Whole};
 use cells::cell::CellRow;
 use cells::fault::{Fault, Layer, Refusal};
 
@@ -22,11 +22,15 @@ pub(crate) fn not_a_frame() -> Fault
     Fault::new(Refusal::NotAFrame, Layer::Frame)
 }
 
-// Whether a page's frame can have these numbers.
-pub(crate) fn is_paged(cycle: u32, page: u16, map: u8) -> bool
-    ensures { result ≡ paged cycle page map }
-{
-    cycle >= 1 && cycle < NO_CYCLE && page <= LAST_PAGE && map >= 1
+impl Page {
+    pub fn new(cycle: u32, number: u16, map: u8) -> Result<Page, Fault>
+        ensures { answered of_page result ≡ page_of cycle number map }
+    {
+        if cycle < 1 || cycle >= NO_CYCLE || number > LAST_PAGE || map < 1 {
+            return Err(not_a_frame());
+        }
+        Ok(Page { cycle, number, map })
+    }
 }
 
 impl Marker {
@@ -44,10 +48,9 @@ impl Held {
     pub fn new(cycle: u32, page: u16, map: u8) -> Result<Held, Fault>
         ensures { answered of_held result ≡ held_of cycle page map }
     {
-        if !is_paged(cycle, page, map) {
-            return Err(not_a_frame());
-        }
-        Ok(Held { cycle, page, map })
+        Ok(Held {
+            page: Page::new(cycle, page, map)?,
+        })
     }
 }
 
@@ -66,14 +69,7 @@ impl<R: CellRow> Entries<R> {
     pub fn new(cycle: u32, page: u16, map: u8, cells: [R; 8]) -> Result<Entries<R>, Fault>
         ensures { answered (of_entries R.CellRow.bytes) result ≡ entries_of cycle page map (places R.CellRow.bytes map cells) }
     {
-        if !is_paged(cycle, page, map) {
-            return Err(not_a_frame());
-        }
-        Ok(Entries {
-            cycle,
-            page,
-            map,
-            cells,
-        })
+        let page = Page::new(cycle, page, map)?;
+        Ok(Entries { page, cells })
     }
 }

@@ -5,8 +5,8 @@ ghost use Rattle.cells.specs.Faults.{answered};
 ghost use Rattle.frames.specs.Format.{Exact, decoded, decoded_entries, decoded_held, decoded_marker, decoded_whole, entries_in, parted};
 ghost use Rattle.frames.specs.Frames.{CellsOf, Written, meaning, of_entries, of_held, of_marker, of_whole};
 
-use crate::frame::{Entries, Frame, Held, Marker, Whole};
-use crate::make::{is_paged, not_a_frame};
+use crate::frame::{Entries, Frame, Held, Marker, Page, Whole};
+use crate::make::not_a_frame;
 use cells::cell::{CellRow, read_cell};
 use cells::fault::Fault;
 
@@ -26,16 +26,16 @@ fn get_at<R: CellRow>(bytes: &[u8], at: usize) -> Result<R, Fault>
     read_cell(&bytes[at..at + width])
 }
 
-// The cells of a map, the lowest bit's first.
-fn read_cells<R: CellRow>(map: u8, bytes: &[u8]) -> Result<[R; 8], Fault>
-    requires { length bytes.now ≡ count_ones map * R.CellRow.width }
-    ensures { CellsOf R.CellRow.bytes R.CellRow.reads map (parted R.CellRow.width 8 map bytes.now) result }
+// The cells of a page, the lowest address's first.
+fn read_cells<R: CellRow>(page: Page, bytes: &[u8]) -> Result<[R; 8], Fault>
+    requires { length bytes.now ≡ count_ones page.map * R.CellRow.width }
+    ensures { CellsOf R.CellRow.bytes R.CellRow.reads page.map (parted R.CellRow.width 8 page.map bytes.now) result }
 {
     let width = R::width();
     let mut cells = [R::zero(); 8];
     let mut at = 0;
     for i in 0..8 {
-        if (map >> i) % 2 == 1 {
+        if (page.map >> i) % 2 == 1 {
             cells[i] = get_at(bytes, at)?;
             at += width;
         }
@@ -43,24 +43,14 @@ fn read_cells<R: CellRow>(map: u8, bytes: &[u8]) -> Result<[R; 8], Fault>
     Ok(cells)
 }
 
-fn read_entries<R: CellRow>(
-    cycle: u32,
-    page: u16,
-    map: u8,
-    bytes: &[u8],
-) -> Result<Entries<R>, Fault>
-    ensures { answered (of_entries R.CellRow.bytes) result ≡ entries_in R.CellRow.width R.CellRow.reads cycle page map bytes.now }
+fn read_entries<R: CellRow>(page: Page, bytes: &[u8]) -> Result<Entries<R>, Fault>
+    ensures { answered (of_entries R.CellRow.bytes) result ≡ entries_in R.CellRow.width R.CellRow.reads page.cycle page.number page.map bytes.now }
 {
-    if bytes.len() != cells_len::<R>(map) || !is_paged(cycle, page, map) {
+    if bytes.len() != cells_len::<R>(page.map) {
         return Err(not_a_frame());
     }
-    let cells = read_cells(map, bytes)?;
-    Ok(Entries {
-        cycle,
-        page,
-        map,
-        cells,
-    })
+    let cells = read_cells(page, bytes)?;
+    Ok(Entries { page, cells })
 }
 
 fn read_page<R: CellRow>(bytes: &[u8]) -> Result<Entries<R>, Fault>
@@ -69,8 +59,9 @@ fn read_page<R: CellRow>(bytes: &[u8]) -> Result<Entries<R>, Fault>
     match bytes {
         [_, a, b, c, d, e, f, map, cells @ ..] => {
             let cycle = u32::from_be_bytes([*a, *b, *c, *d]);
-            let page = u16::from_be_bytes([*e, *f]);
-            read_entries(cycle, page, *map, cells)
+            let number = u16::from_be_bytes([*e, *f]);
+            let page = Page::new(cycle, number, *map)?;
+            read_entries(page, cells)
         }
         _ => Err(not_a_frame()),
     }

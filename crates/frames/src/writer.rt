@@ -18,20 +18,18 @@ fn put_at<R: CellRow>(cell: R, out: &mut [u8], at: usize)
     out[at..at + width].copy_from_slice(&bytes[0..width]);
 }
 
-// The cells whose bit stands, the lowest bit's first.
-fn write_cells<R: CellRow>(map: u8, cells: &[R], out: &mut [u8]) -> usize
-    requires { (length cells.now ≡ 8) × (128 ≤ length out.old) }
-    ensures size { result ≡ length (bodies (places R.CellRow.bytes map cells.now)) }
-    ensures laid { out.new ≡ bodies (places R.CellRow.bytes map cells.now) ++ drop result out.old }
+// The cells of a page, the lowest address's first.
+fn write_cells<R: CellRow>(entries: &Entries<R>, out: &mut [u8]) -> usize
+    requires { 128 ≤ length out.old }
+    ensures size { result ≡ length (bodies (places R.CellRow.bytes entries.now.page.map entries.now.cells)) }
+    ensures laid { out.new ≡ bodies (places R.CellRow.bytes entries.now.page.map entries.now.cells) ++ drop result out.old }
     ensures most { result ≤ 128 }
 {
     let width = R::width();
     let mut at = 0;
-    for i in 0..8 {
-        if (map >> i) % 2 == 1 {
-            put_at(cells[i], out, at);
-            at += width;
-        }
+    for address in entries.page.addresses() {
+        put_at(entries.cells[address % 8], out, at);
+        at += width;
     }
     at
 }
@@ -50,9 +48,10 @@ fn write_held(held: &Held, out: &mut [u8; 136]) -> usize
     ensures size { result ≡ length (encoded (of_held held.now)) }
     ensures laid { out.new ≡ encoded (of_held held.now) ++ drop result out.old }
 {
-    let [a, b, c, d] = held.cycle.to_be_bytes();
-    let [e, f] = held.page.to_be_bytes();
-    out[0..8].copy_from_slice(&[0x13, a, b, c, d, e, f, held.map]);
+    let page = &held.page;
+    let [a, b, c, d] = page.cycle.to_be_bytes();
+    let [e, f] = page.number.to_be_bytes();
+    out[0..8].copy_from_slice(&[0x13, a, b, c, d, e, f, page.map]);
     8
 }
 
@@ -69,10 +68,11 @@ fn write_entries<R: CellRow>(entries: &Entries<R>, out: &mut [u8; 136]) -> usize
     ensures size { result ≡ length (encoded (of_entries R.CellRow.bytes entries.now)) }
     ensures laid { out.new ≡ encoded (of_entries R.CellRow.bytes entries.now) ++ drop result out.old }
 {
-    let [a, b, c, d] = entries.cycle.to_be_bytes();
-    let [e, f] = entries.page.to_be_bytes();
-    out[0..8].copy_from_slice(&[0x07, a, b, c, d, e, f, entries.map]);
-    8 + write_cells(entries.map, &entries.cells, &mut out[8..136])
+    let page = &entries.page;
+    let [a, b, c, d] = page.cycle.to_be_bytes();
+    let [e, f] = page.number.to_be_bytes();
+    out[0..8].copy_from_slice(&[0x07, a, b, c, d, e, f, page.map]);
+    8 + write_cells(entries, &mut out[8..136])
 }
 
 fn lay<R: CellRow>(frame: &Frame<R>, out: &mut [u8; 136]) -> usize

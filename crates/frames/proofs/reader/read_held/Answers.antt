@@ -1,15 +1,10 @@
-use Rattle.std.proofs.Common.{◌≡◌, ℕ, ◌+◌, ◌*◌, ◌≤◌, List, eqb, length, get_or, Err, sym, ap, ◌∙◌, rules, arith}
+use Rattle.std.proofs.Common.{◌≡◌, ℕ, ◌≤◌, eqb, length, get_or, Err, sym, ap, ◌∙◌, rules, arith}
 use Rattle.std.proofs.lemmas.Bool.{cond-true, eq-eqb}
 use Rattle.cells.specs.Faults.{not_a_frame}
 use Rattle.cells.specs.Numbers.{field}
 use Rattle.frames.specs.Format.{held_of}
+use Rattle.frames.proofs.Pages.{cycle_is, page_is}
 use Rattle.frames.proofs.reader.read_held.Goals as goal
-
-cycle_is : (bs : List ℕ) (n : ℕ) → 8 ≤ length bs → n ≡ ((get_or bs 1 0 * 256 + get_or bs 2 0) * 256 + get_or bs 3 0) * 256 + get_or bs 4 0 → n ≡ field 4 1 bs
-cycle_is bs n l e = search rules
-
-page_is : (bs : List ℕ) (n : ℕ) → 8 ≤ length bs → n ≡ get_or bs 5 0 * 256 + get_or bs 6 0 → n ≡ field 2 5 bs
-page_is bs n l e = search rules
 
 pub returns-in-len8 : goal.returns-in-len8
 returns-in-len8 c =

@@ -10,18 +10,19 @@ use Rattle.frames.proofs.writer.write_entries.Goals as goal
 pub returns : goal.returns
 returns g c =
     let e = c.args.entries.now in
-    let ps = places g.R.CellRow.bytes e.map e.cells in
+    let p = e.page in
+    let ps = places g.R.CellRow.bytes p.map e.cells in
     let old = c.args.out.now in
     let r = c.write_cells.result in
-    let head : List ℕ = 7 ∷ (be 4 e.cycle ++ (be 2 e.page ++ (e.map ∷ []))) in
-    let f4 = be_four e.cycle in
-    let f2 = be_two e.page in
+    let head : List ℕ = 7 ∷ (be 4 p.cycle ++ (be 2 p.number ++ (p.map ∷ []))) in
+    let f4 = be_four p.cycle in
+    let f2 = be_two p.number in
     let made : c.copy_from_slice.new.self ≡ head = search rules in
     let long : length old ≡ 136 = search rules in
     let kept : length c.write_cells.new.out ≡ 128 = search rules in
-    let small : e.map < 2 ^ length e.cells = subst (λ (n : ℕ). e.map < 2 ^ n) (sym e.eight) e.some.1 in
-    let m : map_of ps ≡ e.map = map_of-places g.R.CellRow.bytes e.map e.cells small in
+    let small : p.map < 2 ^ length e.cells = subst (λ (n : ℕ). p.map < 2 ^ n) (sym e.eight) p.some.1 in
+    let m : map_of ps ≡ p.map = map_of-places g.R.CellRow.bytes p.map e.cells small in
     record {
-      size = ap (λ (n : ℕ). 8 + n) c.write_cells.ensures.size ∙ (let l = length-paged 7 e.cycle e.page (map_of ps ∷ bodies ps) in omega arith);
-      laid = entries_laid e.cycle e.page e.map r ps old c.copy_from_slice.new.self c.write_cells.new.out m long made kept c.write_cells.ensures.laid;
+      size = ap (λ (n : ℕ). 8 + n) c.write_cells.ensures.size ∙ (let l = length-paged 7 p.cycle p.number (map_of ps ∷ bodies ps) in omega arith);
+      laid = entries_laid p.cycle p.number p.map r ps old c.copy_from_slice.new.self c.write_cells.new.out m long made kept c.write_cells.ensures.laid;
     }

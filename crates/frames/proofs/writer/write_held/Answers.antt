@@ -8,7 +8,7 @@ use Rattle.frames.proofs.writer.write_held.Goals as goal
 pub returns : goal.returns
 returns c =
     let h = c.args.held.now in
-    let e = be_four h.cycle in
-    let f = be_two h.page in
+    let e = be_four h.page.cycle in
+    let f = be_two h.page.number in
     let made : c.copy_from_slice.new.self ≡ encoded (of_held h) = search rules in
-    record { size = sym (length-paged 19 h.cycle h.page (h.map ∷ [])); laid = fronted 8 c.args.out.now c.copy_from_slice.new.self (encoded (of_held h)) made }
+    record { size = sym (length-paged 19 h.page.cycle h.page.number (h.page.map ∷ [])); laid = fronted 8 c.args.out.now c.copy_from_slice.new.self (encoded (of_held h)) made }
