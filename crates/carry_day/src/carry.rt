@@ -27,11 +27,9 @@ pub(crate) fn send_cell(queue: &mut Queue, address: u16, cell: ReadingRow) -> Re
 // Lays the cells of an entries frame into a group.
 fn lay(entries: &Entries<ReadingRow>, group: &mut Sparse<ReadingRow>) -> Result<(), Fault> {
     let blocks = (*group).blocks();
-    for i in 0..8 {
-        if (entries.map >> i) % 2 == 1 {
-            let a = entries.page as usize * 8 + i;
-            (*group).write(a / blocks, a % blocks, entries.cells[i])?;
-        }
+    for address in entries.page.addresses() {
+        let cell = entries.cells[address % 8];
+        (*group).write(address / blocks, address % blocks, cell)?;
     }
     Ok(())
 }
@@ -42,9 +40,8 @@ fn take_one(queue: &mut Queue, group: &mut Sparse<ReadingRow>) -> Result<bool, F
     let Some(n) = queue.take(&mut buffer)? else {
         return Ok(false);
     };
-    match read::<ReadingRow>(&buffer[0..n])? {
-        Frame::Entries(entries) => lay(&entries, group)?,
-        _ => {}
+    if let Frame::Entries(entries) = read::<ReadingRow>(&buffer[0..n])? {
+        lay(&entries, group)?;
     }
     Ok(true)
 }
