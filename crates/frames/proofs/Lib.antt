@@ -2,6 +2,7 @@ pub mod Places
 pub mod Pages
 pub mod Lowest
 pub mod Walking
+pub mod Telling
 pub mod Cutting
 pub mod Laying
 pub mod RoundTrip

@@ -2,4 +2,5 @@ pub mod Meaning
 pub mod Format
 pub mod Addressed
 pub mod Frames
+pub mod Texts
 pub mod Figures

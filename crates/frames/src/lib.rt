@@ -6,4 +6,5 @@ pub mod figures;
 pub mod frame;
 pub mod make;
 pub mod reader;
+pub mod text;
 pub mod writer;
