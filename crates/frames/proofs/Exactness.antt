@@ -11,7 +11,7 @@ use Rattle.cells.specs.Numbers.{Bytes, be, field}
 use Rattle.cells.specs.BigEndian.{be-field}
 use Rattle.frames.specs.Meaning.{FrameMeaning, Places, entries, marker, held, whole, encoded, map_of, bodies, Numbered, Wide, Formed, all_read, cells_read}
 use Rattle.frames.specs.Format.{parted, numbered, paged, marker_of, held_of, whole_of, entries_in, decoded_entries, decoded_marker, decoded_held, decoded_whole, decoded, Exact}
-use Rattle.frames.proofs.Cutting.{parted_up, parted_down}
+use Rattle.frames.proofs.Cutting.{length-parted, parted_up, parted_down}
 use Rattle.frames.proofs.RoundTrip.{decoded-encoded}
 
 numbered_is : (c : ℕ) → numbered c ≡ true → Numbered c
@@ -31,15 +31,6 @@ module _ (w : ℕ) where
       ⊎_elim
       (λ b. ap map_of (parted_up w n m bs b) ∙ ap (λ (x : ℕ). 1 + 2 * x) (map_of-parted n (m / 2) (drop w bs) k) ∙ (omega arith))
       (λ b. ap map_of (parted_down w n m bs b) ∙ ap (λ (x : ℕ). 2 * x) (map_of-parted n (m / 2) bs k) ∙ (omega arith))
-      (cases_eq (m % 2) 1)
-
-  length-parted : (n m : ℕ) (bs : List ℕ) → length (parted w n m bs) ≡ n
-  unfolding parted
-  length-parted zero m bs = refl
-  length-parted (suc n) m bs =
-      ⊎_elim
-      (λ b. ap length (parted_up w n m bs b) ∙ ap suc (length-parted n (m / 2) (drop w bs)))
-      (λ b. ap length (parted_down w n m bs b) ∙ ap suc (length-parted n (m / 2) bs))
       (cases_eq (m % 2) 1)
 
   -- the cells have their width, and are the bytes that were cut

@@ -8,6 +8,14 @@ use Rattle.frames.specs.Frames.{places}
 use Rattle.frames.specs.Addressed.{addresses}
 use Rattle.frames.proofs.Places.{place_up, place_down}
 
+pub addresses_up : (n a m : ℕ) → m % 2 ≡ 1 → addresses (suc n) a m ≡ a ∷ addresses n (a + 1) (m / 2)
+unfolding addresses
+addresses_up n a m b = simp (eq-eqb (m % 2) 1 b)
+
+pub addresses_down : (n a m : ℕ) → (m % 2 ≡ 1 → ⊥) → addresses (suc n) a m ≡ addresses n (a + 1) (m / 2)
+unfolding addresses
+addresses_down n a m b = simp (ne_eqb (m % 2) 1 b)
+
 pub length-addresses : (n a m : ℕ) → length (addresses n a m) ≤ n
 unfolding addresses
 length-addresses zero a m = omega arith

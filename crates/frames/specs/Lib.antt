@@ -1,4 +1,5 @@
 pub mod Meaning
+pub mod Kinds
 pub mod Format
 pub mod Addressed
 pub mod Frames

@@ -3,7 +3,7 @@ ghost use Rattle.std.specs.Prelude.{◌≡◌, ℕ, ◌<◌, ◌≤◌, length};
 
 // Addresses of one page of a cycle's delta set, at least one: bit i of the map says whether the address
 // 8 × number + i is among them.
-#[derive(Clone, Copy)]
+#[derive(Clone, Copy, PartialEq, Eq, Debug)]
 pub struct Page {
     pub cycle: u32,
     pub number: u16,
@@ -14,7 +14,7 @@ pub struct Page {
 }
 
 // Entries of the addresses of a page: `cells[i]` for bit i. Rows whose bit is down mean nothing.
-#[derive(Drop)]
+#[derive(Debug, Drop)]
 pub struct Entries<R> {
     pub page: Page,
     pub cells: [R; 8],
@@ -22,7 +22,7 @@ pub struct Entries<R> {
 }
 
 // The end of a cycle's delta set: how many entries it has.
-#[derive(Clone, Copy)]
+#[derive(Clone, Copy, PartialEq, Eq, Debug)]
 pub struct Marker {
     pub cycle: u32,
     pub count: u16,
@@ -31,19 +31,19 @@ pub struct Marker {
 }
 
 // The addresses of a page that the standby holds.
-#[derive(Clone, Copy)]
+#[derive(Clone, Copy, PartialEq, Eq, Debug)]
 pub struct Held {
     pub page: Page,
 }
 
 // The standby holds the cycle's delta set whole. Cycle 0 is that of a standby that has none yet.
-#[derive(Clone, Copy)]
+#[derive(Clone, Copy, PartialEq, Eq, Debug)]
 pub struct Whole {
     pub cycle: u32,
     ghost numbered: { cycle < 4294967295 },
 }
 
-#[derive(Drop)]
+#[derive(Debug, Drop)]
 pub enum Frame<R> {
     Entries(Entries<R>),
     Marker(Marker),

@@ -4,6 +4,7 @@
 pub mod addresses;
 pub mod figures;
 pub mod frame;
+mod kind;
 pub mod make;
 pub mod reader;
 pub mod text;

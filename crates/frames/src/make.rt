@@ -1,7 +1,7 @@
 // Making frames of numbers: only such as can be read again.
 ghost use Rattle.std.specs.Prelude.{◌≡◌, ℕ};
 ghost use Rattle.cells.specs.Faults.{answered, not_a_frame};
-ghost use Rattle.frames.specs.Format.{entries_of, held_of, marker_of, page_of, whole_of};
+ghost use Rattle.frames.specs.Format.{entries_of, held_of, marker_of, numbered, page_of, whole_of};
 ghost use Rattle.frames.specs.Frames.{of_entries, of_held, of_marker, of_page, of_whole, places};
 
 use crate::frame::{Entries, Held, Marker, Page, Whole};
@@ -22,11 +22,18 @@ pub(crate) fn not_a_frame() -> Fault
     Fault::new(Refusal::NotAFrame, Layer::Frame)
 }
 
+// Whether a cycle of that number has a delta set.
+fn is_numbered(cycle: u32) -> bool
+    ensures { result ≡ numbered cycle }
+{
+    (1..NO_CYCLE).contains(&cycle)
+}
+
 impl Page {
     pub fn new(cycle: u32, number: u16, map: u8) -> Result<Page, Fault>
         ensures { answered of_page result ≡ page_of cycle number map }
     {
-        if cycle < 1 || cycle >= NO_CYCLE || number > LAST_PAGE || map < 1 {
+        if !is_numbered(cycle) || number > LAST_PAGE || map == 0 {
             return Err(not_a_frame());
         }
         Ok(Page { cycle, number, map })
@@ -37,7 +44,7 @@ impl Marker {
     pub fn new(cycle: u32, count: u16) -> Result<Marker, Fault>
         ensures { answered of_marker result ≡ marker_of cycle count }
     {
-        if cycle < 1 || cycle >= NO_CYCLE || count > MOST_ENTRIES {
+        if !is_numbered(cycle) || count > MOST_ENTRIES {
             return Err(not_a_frame());
         }
         Ok(Marker { cycle, count })

@@ -6,6 +6,7 @@ ghost use Rattle.frames.specs.Format.{Exact, decoded, decoded_entries, decoded_h
 ghost use Rattle.frames.specs.Frames.{CellsOf, Written, meaning, of_entries, of_held, of_marker, of_whole};
 
 use crate::frame::{Entries, Frame, Held, Marker, Page, Whole};
+use crate::kind::Kind;
 use crate::make::not_a_frame;
 use cells::cell::{CellRow, read_cell};
 use cells::fault::Fault;
@@ -17,28 +18,14 @@ fn cells_len<R: CellRow>(map: u8) -> usize
     map.count_ones() as usize * R::width()
 }
 
-// The cell at a place.
-fn get_at<R: CellRow>(bytes: &[u8], at: usize) -> Result<R, Fault>
-    requires { at + R.CellRow.width ≤ length bytes.now }
-    ensures { answered R.CellRow.bytes result ≡ cell_of R.CellRow.reads (take R.CellRow.width (drop at bytes.now)) }
-{
-    let width = R::width();
-    read_cell(&bytes[at..at + width])
-}
-
 // The cells of a page, the lowest address's first.
 fn read_cells<R: CellRow>(page: Page, bytes: &[u8]) -> Result<[R; 8], Fault>
     requires { length bytes.now ≡ count_ones page.map * R.CellRow.width }
     ensures { CellsOf R.CellRow.bytes R.CellRow.reads page.map (parted R.CellRow.width 8 page.map bytes.now) result }
 {
-    let width = R::width();
     let mut cells = [R::zero(); 8];
-    let mut at = 0;
-    for i in 0..8 {
-        if (page.map >> i) % 2 == 1 {
-            cells[i] = get_at(bytes, at)?;
-            at += width;
-        }
+    for (address, cell) in page.addresses().zip(bytes.chunks_exact(R::width())) {
+        cells[address % 8] = read_cell(cell)?;
     }
     Ok(cells)
 }
@@ -108,12 +95,11 @@ fn parse<R: CellRow>(bytes: &[u8]) -> Result<Frame<R>, Fault>
     let [kind, ..] = bytes else {
         return Err(not_a_frame());
     };
-    match *kind {
-        0x07 => Ok(Frame::Entries(read_page(bytes)?)),
-        0x09 => Ok(Frame::Marker(read_marker(bytes)?)),
-        0x13 => Ok(Frame::Held(read_held(bytes)?)),
-        0x01 => Ok(Frame::Whole(read_whole(bytes)?)),
-        _ => Err(not_a_frame()),
+    match Kind::try_from(*kind)? {
+        Kind::Entries => Ok(Frame::Entries(read_page(bytes)?)),
+        Kind::Marker => Ok(Frame::Marker(read_marker(bytes)?)),
+        Kind::Held => Ok(Frame::Held(read_held(bytes)?)),
+        Kind::Whole => Ok(Frame::Whole(read_whole(bytes)?)),
     }
 }
 

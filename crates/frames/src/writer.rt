@@ -5,6 +5,7 @@ ghost use Rattle.frames.specs.Frames.{meaning, of_entries, of_held, of_marker, o
 ghost use Rattle.frames.specs.Meaning.{bodies, encoded};
 
 use crate::frame::{Entries, Frame, Held, Marker, Whole};
+use crate::kind::Kind;
 use cells::cell::{CellRow, write_cell};
 
 // A cell's bytes, at a place.
@@ -26,6 +27,8 @@ fn write_cells<R: CellRow>(entries: &Entries<R>, out: &mut [u8]) -> usize
     ensures most { result ≤ 128 }
 {
     let width = R::width();
+    // The place in the buffer is counted here: once a loan by `chunks_exact_mut` ends, a proof knows the
+    // buffer's length and none of what was written through the loan.
     let mut at = 0;
     for address in entries.page.addresses() {
         put_at(entries.cells[address % 8], out, at);
@@ -40,7 +43,7 @@ fn write_marker(marker: &Marker, out: &mut [u8; 136]) -> usize
 {
     let [a, b, c, d] = marker.cycle.to_be_bytes();
     let [e, f] = marker.count.to_be_bytes();
-    out[0..7].copy_from_slice(&[0x09, a, b, c, d, e, f]);
+    out[0..7].copy_from_slice(&[Kind::Marker as u8, a, b, c, d, e, f]);
     7
 }
 
@@ -51,7 +54,7 @@ fn write_held(held: &Held, out: &mut [u8; 136]) -> usize
     let page = &held.page;
     let [a, b, c, d] = page.cycle.to_be_bytes();
     let [e, f] = page.number.to_be_bytes();
-    out[0..8].copy_from_slice(&[0x13, a, b, c, d, e, f, page.map]);
+    out[0..8].copy_from_slice(&[Kind::Held as u8, a, b, c, d, e, f, page.map]);
     8
 }
 
@@ -60,7 +63,7 @@ fn write_whole(whole: &Whole, out: &mut [u8; 136]) -> usize
     ensures laid { out.new ≡ encoded (of_whole whole.now) ++ drop result out.old }
 {
     let [a, b, c, d] = whole.cycle.to_be_bytes();
-    out[0..5].copy_from_slice(&[0x01, a, b, c, d]);
+    out[0..5].copy_from_slice(&[Kind::Whole as u8, a, b, c, d]);
     5
 }
 
@@ -71,7 +74,7 @@ fn write_entries<R: CellRow>(entries: &Entries<R>, out: &mut [u8; 136]) -> usize
     let page = &entries.page;
     let [a, b, c, d] = page.cycle.to_be_bytes();
     let [e, f] = page.number.to_be_bytes();
-    out[0..8].copy_from_slice(&[0x07, a, b, c, d, e, f, page.map]);
+    out[0..8].copy_from_slice(&[Kind::Entries as u8, a, b, c, d, e, f, page.map]);
     8 + write_cells(entries, &mut out[8..136])
 }
 
