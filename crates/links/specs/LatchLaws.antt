@@ -1,8 +1,8 @@
 -- The laws of a link hold of a latch. Assumes nothing.
-use Rattle.std.specs.Prelude.{◌≡◌, ℕ, Bool, true, false, cond, ◌⊎◌, Some, None, Option, refl}
+use Rattle.std.specs.Prelude.{◌≡◌, Bool, true, false, cond, ◌⊎◌, Some, None, Option, refl}
 use mathlib.Core.List.Memᴰ
 use mathlib.Core.List.{Memᴰ}
-use Rattle.std.proofs.Common.{inl, inr, sym, subst, arith}
+use Rattle.std.proofs.Common.{inl, inr, sym, subst}
 use Rattle.links.specs.declared.place.Place.{Place}
 use Rattle.links.specs.Meaning.{Datagram, LinkLaws, Sized, sendable}
 use Rattle.links.specs.Placed.{kept_in, sized_place}
@@ -14,7 +14,7 @@ from_sent true d x kept m = inl (refl, Memᴰ.eq_of_singleton m)
 from_sent false d x kept m = inr m
 
 in_listed : (kept : Option Datagram) (x : Datagram) → kept ≡ Some x → Memᴰ x (listed kept)
-in_listed None x e = absurd (let z : ◌≡◌ {A = ℕ} 0 1 = cc in omega arith)
+in_listed None x e = cc
 in_listed (Some d) x e = let s : x ≡ d = cc in Memᴰ.head s
 
 sized_kept : (p : Option Place) (x : Datagram) → Memᴰ x (listed (kept_in p)) → Sized x

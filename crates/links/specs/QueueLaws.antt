@@ -2,7 +2,7 @@
 use Rattle.std.specs.Prelude.{◌≡◌, ℕ, zero, suc, Bool, true, false, cond, ◌⊎◌, List, [], ◌∷◌, ◌++◌, length, Some, nat_lt, refl}
 use mathlib.Core.List.Memᴰ
 use mathlib.Core.List.{Memᴰ}
-use Rattle.std.proofs.Common.{inl, inr, ⊎_elim, sym, subst, arith}
+use Rattle.std.proofs.Common.{inl, inr, ⊎_elim, sym, subst}
 use Rattle.std.specs.Slice.Iter.{iter_rest}
 use Rattle.links.specs.declared.fate.Fate.{Fate}
 use Rattle.links.specs.declared.fate.Fate.TheVariants.{Delivered, Lost, Twice, Hurried}
@@ -51,7 +51,7 @@ in_rest x [] m = m
 in_rest x (w ∷ ws) m = Memᴰ.tail m
 
 in_first : (x : Datagram) (ws : List Datagram) → first ws ≡ Some x → Memᴰ x ws
-in_first x [] e = absurd (let z : ◌≡◌ {A = ℕ} 0 1 = cc in omega arith)
+in_first x [] e = cc
 in_first x (w ∷ ws) e = let s : x ≡ w = cc in Memᴰ.head s
 
 sized_held : (ps : List Place) (n : ℕ) (x : Datagram) → Memᴰ x (held ps n) → Sized x
