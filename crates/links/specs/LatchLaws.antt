@@ -3,6 +3,7 @@ use Rattle.std.specs.Prelude.{◌≡◌, Bool, true, false, cond, ◌⊎◌, Som
 use mathlib.Core.List.Memᴰ
 use mathlib.Core.List.{Memᴰ}
 use Rattle.std.proofs.Common.{inl, inr, sym, subst}
+use Rattle.links.specs.declared.latch.Latch.{Latch}
 use Rattle.links.specs.declared.place.Place.{Place}
 use Rattle.links.specs.Meaning.{Datagram, LinkLaws, Sized, sendable}
 use Rattle.links.specs.Placed.{kept_in, sized_place}
@@ -24,5 +25,5 @@ sized_kept (Some p) x m = subst Sized (sym (Memᴰ.eq_of_singleton m)) (sized_pl
 step_laws : StepLaws latch_step listed (λ (kept : Option Datagram). kept)
 step_laws = record { sent = λ s d x. from_sent (sendable d) d x s; answered = in_listed; taken = λ s x m. m }
 
-pub latch_laws : (p : Option Place) → LinkLaws (latch_of p)
-latch_laws p = laws_from latch_step listed (λ (kept : Option Datagram). kept) step_laws (kept_in p) (sized_kept p)
+pub latch_laws : (l : Latch) → LinkLaws (latch_of l)
+latch_laws l = laws_from latch_step listed (λ (kept : Option Datagram). kept) step_laws (kept_in l.kept) (sized_kept l.kept)
