@@ -5,6 +5,7 @@
 mod tests {
     use cells::fault::{Fault, Layer};
     use links::exchange::exchange;
+    use links::fate::Fate;
     use links::latch::Latch;
     use links::link::Link;
     use links::place::Place;
@@ -17,32 +18,36 @@ mod tests {
         let bytes = [number; 136];
         let n = number as usize;
         assert!(rt; n <= 136);
-        link.send(&bytes[0..n])?;
+        link.send(&bytes[..n])?;
         Ok(())
     }
 
     // A buffer that has the datagram at its front, and is as it was behind it.
-    fn shows(rt: &impl Abort, buffer: &[u8], number: u8) -> Result<(), Fail> {
-        let n = number as usize;
-        for i in 0..buffer.len() {
-            let byte = if i < n { number } else { 0xaa };
-            assert!(rt; buffer[i] == byte);
+    fn shows(rt: &impl Abort, buffer: &[u8], number: u8) {
+        for (i, byte) in buffer.iter().enumerate() {
+            let wanted = if i < number as usize { number } else { 0xaa };
+            assert_eq!(rt; *byte, wanted, "at {i}");
         }
-        Ok(())
+    }
+
+    // What was answered and laid into the buffer: a datagram, or nothing.
+    fn came(rt: &impl Abort, answer: Option<usize>, buffer: &[u8], number: Option<u8>) {
+        assert_eq!(rt; answer, number.map(usize::from));
+        shows(rt, buffer, number.unwrap_or(0));
     }
 
     fn takes<L: Link>(rt: &impl Abort, link: &mut L, number: u8) -> Result<(), Fail> {
         let mut buffer = [0xaa; 140];
         let taken = link.take(&mut buffer)?;
-        assert!(rt; taken == Some(number as usize));
-        shows(rt, &buffer, number)
+        came(rt, taken, &buffer, Some(number));
+        Ok(())
     }
 
     fn takes_nothing<L: Link>(rt: &impl Abort, link: &mut L) -> Result<(), Fail> {
         let mut buffer = [0xaa; 136];
         let taken = link.take(&mut buffer)?;
-        assert!(rt; taken == None);
-        shows(rt, &buffer, 0)
+        came(rt, taken, &buffer, None);
+        Ok(())
     }
 
     // Sends the numbers to a queue of three places, and takes out what then waits.
@@ -52,35 +57,38 @@ mod tests {
         for number in sent {
             send(rt, &mut queue, *number)?;
         }
-        assert!(rt; queue.waiting() == taken.len());
+        assert_eq!(rt; queue.waiting(), taken.len());
         for number in taken {
             takes(rt, &mut queue, *number)?;
         }
         takes_nothing(rt, &mut queue)
     }
 
-    fn is_fault(rt: &impl Abort, fault: Fault, number: u8, layer: Layer) {
-        assert!(rt; u8::from(fault.refusal) == number && fault.layer == layer);
+    // A refusal with its number and layer, on no side, in cycle 0 and of no volume.
+    fn is_refused<T: Drop>(
+        rt: &impl Abort,
+        answer: Result<T, Fault>,
+        number: u8,
+        layer: Layer,
+    ) -> Result<(), Fail> {
+        let Err(fault) = answer else {
+            return Err(Fail::new("not refused"));
+        };
+        assert_eq!(rt; u8::from(fault.refusal), number);
+        assert_eq!(rt; fault.layer, layer);
         assert!(rt; fault.side == None && fault.cycle == 0 && fault.volume == None);
+        Ok(())
     }
 
     // Sends of 0 and of 137 bytes, and takes into 135.
     fn refuses<L: Link>(rt: &impl Abort, link: &mut L) -> Result<(), Fail> {
         let bytes = [7; 137];
-        match link.send(&bytes[0..0]) {
-            Ok(()) => return Err(Fail::new("sent nothing")),
-            Err(fault) => is_fault(rt, fault, 12, Layer::Frame),
-        }
-        match link.send(&bytes) {
-            Ok(()) => return Err(Fail::new("sent 137 bytes")),
-            Err(fault) => is_fault(rt, fault, 12, Layer::Frame),
-        }
+        is_refused(rt, link.send(&bytes[..0]), 12, Layer::Frame)?;
+        is_refused(rt, link.send(&bytes), 12, Layer::Frame)?;
         let mut buffer = [0xaa; 135];
-        match link.take(&mut buffer) {
-            Ok(_) => return Err(Fail::new("took into 135 bytes")),
-            Err(fault) => is_fault(rt, fault, 3, Layer::Link),
-        }
-        shows(rt, &buffer, 0)
+        is_refused(rt, link.take(&mut buffer), 3, Layer::Link)?;
+        shows(rt, &buffer, 0);
+        Ok(())
     }
 
     #[test]
@@ -135,7 +143,7 @@ mod tests {
         send(&rt, &mut queue, 2)?;
         takes(&rt, &mut queue, 1)?;
         send(&rt, &mut queue, 3)?;
-        assert!(rt; queue.waiting() == 0);
+        assert_eq!(rt; queue.waiting(), 0);
         takes_nothing(&rt, &mut queue)
     }
 
@@ -147,7 +155,7 @@ mod tests {
         send(&rt, &mut queue, 1)?;
         refuses(&rt, &mut queue)?;
         send(&rt, &mut queue, 2)?;
-        assert!(rt; queue.waiting() == 1);
+        assert_eq!(rt; queue.waiting(), 1);
         takes(&rt, &mut queue, 1)?;
         takes_nothing(&rt, &mut queue)
     }
@@ -158,7 +166,7 @@ mod tests {
         let mut queue = Queue::over(&mut places, b"dll");
         send(&rt, &mut queue, 1)?;
         queue.set_fates(b"ht");
-        assert!(rt; queue.waiting() == 1);
+        assert_eq!(rt; queue.waiting(), 1);
         send(&rt, &mut queue, 2)?;
         send(&rt, &mut queue, 3)?;
         takes(&rt, &mut queue, 2)?;
@@ -203,17 +211,9 @@ mod tests {
         let n = sent as usize;
         assert!(rt; n <= 136);
         let mut buffer = [0xaa; 136];
-        let came = exchange(link, &bytes[0..n], &mut buffer)?;
-        match taken {
-            None => {
-                assert!(rt; came == None);
-                shows(rt, &buffer, 0)
-            }
-            Some(number) => {
-                assert!(rt; came == Some(number as usize));
-                shows(rt, &buffer, number)
-            }
-        }
+        let answer = exchange(link, &bytes[..n], &mut buffer)?;
+        came(rt, answer, &buffer, taken);
+        Ok(())
     }
 
     #[test]
@@ -239,18 +239,27 @@ mod tests {
 
     #[test]
     fn a_refused_exchange(rt: HostRuntime) -> Result<(), Fail> {
-        let mut latch = Latch::new();
+        let mut latch = Latch::default();
         let mut buffer = [0xaa; 136];
-        match exchange(&mut latch, &[], &mut buffer) {
-            Ok(_) => return Err(Fail::new("sent nothing")),
-            Err(fault) => is_fault(&rt, fault, 12, Layer::Frame),
-        }
+        is_refused(
+            &rt,
+            exchange(&mut latch, &[], &mut buffer),
+            12,
+            Layer::Frame,
+        )?;
         takes_nothing(&rt, &mut latch)?;
-        match exchange(&mut latch, &[1], &mut buffer[0..135]) {
-            Ok(_) => return Err(Fail::new("took into 135 bytes")),
-            Err(fault) => is_fault(&rt, fault, 3, Layer::Link),
-        }
-        shows(&rt, &buffer, 0)?;
+        let refused = exchange(&mut latch, &[1], &mut buffer[..135]);
+        is_refused(&rt, refused, 3, Layer::Link)?;
+        shows(&rt, &buffer, 0);
         takes(&rt, &mut latch, 1)
+    }
+
+    #[test]
+    fn fates_by_their_letters(rt: HostRuntime) {
+        assert_eq!(rt; Fate::from(b'd'), Fate::Delivered);
+        assert_eq!(rt; Fate::from(b'l'), Fate::Lost);
+        assert_eq!(rt; Fate::from(b't'), Fate::Twice);
+        assert_eq!(rt; Fate::from(b'h'), Fate::Hurried);
+        assert_eq!(rt; Fate::from(b'H'), Fate::Delivered);
     }
 }

@@ -5,41 +5,15 @@ use mathlib.Core.List.{Memᴰ}
 use Rattle.std.proofs.lemmas.List.{replicate_more}
 use Rattle.cells.specs.declared.fault.Fault.{Fault}
 use Rattle.cells.specs.Faults.{not_a_frame}
-use Rattle.links.specs.Calls.{laid, length_of, send_answer, short_buffer, take_answer, take_buffer, take_meaning}
+use Rattle.links.specs.Calls.{laid, length_of, short_buffer}
 use Rattle.links.specs.Exchanged.{Ever, Own, exchange_answer, exchange_buffer, exchange_meaning}
 use Rattle.links.specs.Meaning.{Datagram, LinkCall, LinkLaws, LinkMeaning, after, send, sendable, take}
-
-by_ok : (s : Bool) → ◌≡◌ {A = Result (Unit {0}) Fault} (cond s (Ok tt) (Err not_a_frame)) (Ok tt) → s ≡ true
-by_ok true e = refl
-by_ok false e = absurd (let z : ◌≡◌ {A = ℕ} 0 1 = cc in omega arith)
-
-by_err : (s : Bool) (f : Fault) → ◌≡◌ {A = Result (Unit {0}) Fault} (cond s (Ok tt) (Err not_a_frame)) (Err f) → s ≡ false
-by_err true f e = absurd (let z : ◌≡◌ {A = ℕ} 0 1 = cc in omega arith)
-by_err false f e = refl
-
--- what was accepted is a datagram, and what was refused is none
-pub accepted : (d : Datagram) → send_answer d ≡ Ok tt → sendable d ≡ true
-accepted d = by_ok (sendable d)
-
-pub refused : (d : Datagram) (f : Fault) → send_answer d ≡ Err f → sendable d ≡ false
-refused d f = by_err (sendable d) f
-
--- a take after an accepted send, from what the send left
-module _ (d : Datagram) (b : List ℕ) (m v : LinkMeaning) (ok : sendable d ≡ true) (e : v ≡ after (send d) m) where
-  pub answer_then : (r : Result (Option ℕ) Fault) → r ≡ take_answer b (v.answer []) → r ≡ exchange_answer d b m
-  answer_then r f = f ∙ ap (λ (w : LinkMeaning). take_answer b (w.answer [])) e ∙ simp ok
-
-  pub buffer_then : (b' : List ℕ) → b' ≡ take_buffer b (v.answer []) → b' ≡ exchange_buffer d b m
-  buffer_then b' f = f ∙ ap (λ (w : LinkMeaning). take_buffer b (w.answer [])) e ∙ simp ok
-
-  pub meaning_then : (m' : LinkMeaning) → m' ≡ take_meaning b v → m' ≡ exchange_meaning d b m
-  meaning_then m' f = f ∙ ap (take_meaning b) e ∙ simp ok
 
 own_by_cases : (s w : Bool) (a : Option Datagram) (d : Datagram) (b : List ℕ) → ((x : Datagram) → a ≡ Some x → x ≡ d) → (o : Option ℕ) → ◌≡◌ {A = Result (Option ℕ) Fault} (cond s (cond w (Ok (length_of a)) (Err short_buffer)) (Err not_a_frame)) (Ok o) → ((o ≡ None) × (cond s (cond w (laid a b) b) b ≡ b)) ⊎ ((o ≡ Some (length d)) × (cond s (cond w (laid a b) b) b ≡ d ++ drop (length d) b))
 own_by_cases true true None d b f o e = inl (cc, refl)
 own_by_cases true true (Some x) d b f o e = let g = f x refl in let k : o ≡ Some (length x) = cc in inr (k ∙ ap (λ (y : Datagram). Some (length y)) g, ap (λ (y : Datagram). y ++ drop (length y) b) g)
-own_by_cases true false a d b f o e = absurd (let z : ◌≡◌ {A = ℕ} 0 1 = cc in omega arith)
-own_by_cases false w a d b f o e = absurd (let z : ◌≡◌ {A = ℕ} 0 1 = cc in omega arith)
+own_by_cases true false a d b f o e = cc
+own_by_cases false w a d b f o e = cc
 
 module _ (d : Datagram) (b : List ℕ) (m : LinkMeaning) (laws : LinkLaws m) where
   -- where nothing waited, only d waits after the send

@@ -1,19 +1,18 @@
 -- Datagrams that wait in places. Assumes nothing.
-use Rattle.std.proofs.Common.{◌≡◌, ℕ, ◌+◌, ◌-◌, ◌<◌, ◌≤◌, min, Bool, true, cond, ltb, List, [], ◌∷◌, ◌++◌, map, length, get_or, take, set, sym, refl, ap, ◌∙◌, subst, arith, length-set, length-take}
-use Rattle.std.proofs.lemmas.List.{append_assoc, length-map, map_push, take_more, take_more_set, set_comm}
+use Rattle.std.proofs.Common.{◌≡◌, ℕ, ◌+◌, ◌-◌, ◌<◌, ◌≤◌, Bool, true, cond, ltb, List, [], ◌∷◌, ◌++◌, map, length, get_or, take, set, sym, refl, ap, ◌∙◌, subst, arith, length-set}
+use Rattle.std.proofs.lemmas.List.{append_assoc, length-map, length-take-le, map_push, take_more, take_more_set, set_comm}
 use Rattle.std.proofs.lemmas.Bool.{lt-ltb}
 use Rattle.links.specs.declared.place.Place.{Place}
 use Rattle.links.specs.Meaning.{Datagram}
 use Rattle.links.specs.Placed.{datagram_of}
 use Rattle.links.specs.Queued.{ahead_of_last, held, hurried}
 
--- places in use beyond those that there are hold nothing
-length-held : (ps : List Place) (n : ℕ) → length (held ps n) ≡ min n (length ps)
-length-held ps n = length-map (take n ps) datagram_of ∙ length-take n ps
-
--- whether a place is free
+-- a place is free
 free : (ps : List Place) (n : ℕ) → n < length ps → ltb (length (held ps n)) (length ps) ≡ true
-free ps n h = lt-ltb (length (held ps n)) (length ps) (let l = length-held ps n in omega arith)
+free ps n h =
+    let m = length-map (take n ps) datagram_of in
+    let l = length-take-le n ps (omega arith) in
+    lt-ltb (length (held ps n)) (length ps) (omega arith)
 
 -- one place more
 held_push : (ps : List Place) (n : ℕ) (p : Place) → n < length ps → held (set ps n p) (n + 1) ≡ held ps n ++ (datagram_of p ∷ [])

@@ -1,6 +1,6 @@
 -- What a latch foretells. Assumes nothing.
 use Rattle.std.specs.Prelude.{cond, List, [], ◌∷◌, Some, None, Option}
-use Rattle.links.specs.declared.place.Place.{Place}
+use Rattle.links.specs.declared.latch.Latch.{Latch}
 use Rattle.links.specs.Meaning.{Datagram, LinkCall, LinkMeaning, send, take, sendable}
 use Rattle.links.specs.Placed.{kept_in}
 use Rattle.links.specs.Steps.{foretold}
@@ -19,6 +19,6 @@ listed (Some d) = d ∷ []
 abbrev pub latched : Option Datagram → LinkMeaning
 latched = foretold latch_step listed (λ (kept : Option Datagram). kept)
 
--- the latch that keeps a place, or none yet
-abbrev pub latch_of : Option Place → LinkMeaning
-latch_of p = latched (kept_in p)
+-- what a latch means
+abbrev pub latch_of : Latch → LinkMeaning
+latch_of l = latched (kept_in l.kept)

@@ -1,8 +1,8 @@
 -- The laws of a link hold of a queue. Assumes nothing.
-use Rattle.std.specs.Prelude.{◌≡◌, ℕ, zero, suc, Bool, true, false, cond, ◌⊎◌, List, [], ◌∷◌, ◌++◌, length, Some, nat_lt, refl}
+use Rattle.std.specs.Prelude.{◌≡◌, ℕ, zero, suc, Bool, true, false, cond, ◌⊎◌, List, [], ◌∷◌, ◌++◌, length, Some, nat_lt}
 use mathlib.Core.List.Memᴰ
 use mathlib.Core.List.{Memᴰ}
-use Rattle.std.proofs.Common.{inl, inr, ⊎_elim, sym, subst, arith}
+use Rattle.std.proofs.Common.{inl, inr, ⊎_elim, sym, subst}
 use Rattle.std.specs.Slice.Iter.{iter_rest}
 use Rattle.links.specs.declared.fate.Fate.{Fate}
 use Rattle.links.specs.declared.fate.Fate.TheVariants.{Delivered, Lost, Twice, Hurried}
@@ -12,7 +12,7 @@ use Rattle.links.specs.Fates.{later_fates, next_fate}
 use Rattle.links.specs.Meaning.{Datagram, LinkLaws, Sized, sendable}
 use Rattle.links.specs.Placed.{datagram_of, sized_place}
 use Rattle.links.specs.Queued.{QueueState, appended, ahead_of_last, arrived, first, held, queue_of, queue_step, rest, room, waits}
-use Rattle.links.specs.Steps.{StepLaws, laws_from}
+use Rattle.links.specs.Steps.{StepLaws, laws_from, sent_if}
 
 -- x is d, or one of ws
 abbrev From : Datagram → List Datagram → Datagram → Type 0
@@ -42,16 +42,12 @@ from_arrived n Lost d x ws m = inr m
 from_arrived n Twice d x ws m = ⊎_elim (λ (e : x ≡ d). inl e) (from_appended n d x ws) (from_appended n d x (appended n d ws) m)
 from_arrived n Hurried d x ws m = from_cond (nat_lt (length ws) n) d x (ahead_of_last d ws) ws ws (from_ahead d x ws) (λ k. inr k) m
 
-from_sent : (b : Bool) (d x : Datagram) (s t : QueueState) → (Memᴰ x t.waits → From d s.waits x) → Memᴰ x (cond b t s).waits → ((b ≡ true) × (x ≡ d)) ⊎ Memᴰ x s.waits
-from_sent true d x s t f m = ⊎_elim (λ (e : x ≡ d). inl (refl, e)) (λ (u : Memᴰ x s.waits). inr u) (f m)
-from_sent false d x s t f m = inr m
-
 in_rest : (x : Datagram) (ws : List Datagram) → Memᴰ x (rest ws) → Memᴰ x ws
 in_rest x [] m = m
 in_rest x (w ∷ ws) m = Memᴰ.tail m
 
 in_first : (x : Datagram) (ws : List Datagram) → first ws ≡ Some x → Memᴰ x ws
-in_first x [] e = absurd (let z : ◌≡◌ {A = ℕ} 0 1 = cc in omega arith)
+in_first x [] e = cc
 in_first x (w ∷ ws) e = let s : x ≡ w = cc in Memᴰ.head s
 
 sized_held : (ps : List Place) (n : ℕ) (x : Datagram) → Memᴰ x (held ps n) → Sized x
@@ -62,7 +58,7 @@ sized_held (p ∷ ps) (suc n) x m = ⊎_elim (λ (e : x ≡ datagram_of p). subs
 step_laws : (n : ℕ) → StepLaws (queue_step n) (λ (s : QueueState). s.waits) (λ (s : QueueState). first s.waits)
 step_laws n =
     record {
-      sent = λ s d x. from_sent (sendable d) d x s (record { waits = arrived n (next_fate s.fates) d s.waits; fates = later_fates s.fates }) (from_arrived n (next_fate s.fates) d x s.waits);
+      sent = λ s d x. sent_if (λ (t : QueueState). t.waits) (sendable d) d x (record { waits = arrived n (next_fate s.fates) d s.waits; fates = later_fates s.fates }) s (from_arrived n (next_fate s.fates) d x s.waits);
       answered = λ s x. in_first x s.waits;
       taken = λ s x. in_rest x s.waits;
     }

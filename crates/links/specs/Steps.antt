@@ -1,5 +1,5 @@
 -- Links told by a state and its step: what they foretell, and the laws from those of one step. Assumes nothing.
-use Rattle.std.specs.Prelude.{◌≡◌, true, ◌⊎◌, List, [], ◌∷◌, ◌++◌, length, Some, Option, nat_le, refl}
+use Rattle.std.specs.Prelude.{◌≡◌, Bool, true, false, cond, ◌⊎◌, List, [], ◌∷◌, ◌++◌, length, Some, Option, nat_le, refl}
 use mathlib.Core.List.{Memᴰ}
 use Rattle.std.proofs.Common.{inl, inr, ⊎_elim, subst, sym}
 use Rattle.std.proofs.lemmas.Bool.{and_parts, leb-true}
@@ -10,6 +10,11 @@ pub sized_sendable : (d : Datagram) → sendable d ≡ true → Sized d
 sized_sendable d h =
     let p = and_parts (nat_le 1 (length d)) (nat_le (length d) 136) h in
     (leb-true 1 (length d) p.0, leb-true (length d) 136 p.1)
+
+-- a send that alters nothing where it is refused: what waits after it, by what waits where it is accepted
+pub sent_if : {S : Type 0} (waits : S → List Datagram) (accepted : Bool) (d x : Datagram) (t s : S) → (Memᴰ x (waits t) → (x ≡ d) ⊎ Memᴰ x (waits s)) → Memᴰ x (waits (cond accepted t s)) → ((accepted ≡ true) × (x ≡ d)) ⊎ Memᴰ x (waits s)
+sent_if waits true d x t s f m = ⊎_elim (λ (e : x ≡ d). inl (refl, e)) (λ (u : Memᴰ x (waits s)). inr u) (f m)
+sent_if waits false d x t s f m = inr m
 
 module _ {S : Type 0} (step : LinkCall → S → S) where
   -- the state after some calls

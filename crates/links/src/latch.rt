@@ -9,7 +9,7 @@ use crate::place::Place;
 use cells::fault::Fault;
 
 // A link that keeps the last datagram sent, if there was one.
-#[derive(Drop)]
+#[derive(Default, Drop)]
 pub struct Latch {
     kept: Option<Place>,
 }
@@ -17,22 +17,14 @@ pub struct Latch {
 impl Latch {
     // A latch to which nothing was sent yet.
     pub fn new() -> Latch
-        ensures { latch_of result.kept ≡ latched None }
+        ensures { latch_of result ≡ latched None }
     {
-        Latch { kept: None }
-    }
-}
-
-impl Default for Latch {
-    ghost is_default = { λ l. latch_of l.kept ≡ latched None };
-
-    fn default() -> Latch {
-        Latch::new()
+        Latch::default()
     }
 }
 
 impl Link for Latch {
-    ghost meaning = { λ l. latch_of l.kept };
+    ghost meaning = { latch_of };
 
     fn send(&mut self, datagram: &[u8]) -> Result<(), Fault> {
         let datagram = Datagram::try_from(datagram)?;
@@ -44,5 +36,5 @@ impl Link for Latch {
         hand_out(self.kept, buffer)
     }
 
-    ghost lawful = { λ l. latch_laws l.kept };
+    ghost lawful = { latch_laws };
 }

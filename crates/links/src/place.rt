@@ -3,7 +3,8 @@ ghost use Rattle.std.specs.Prelude.{◌≡◌, ◌≤◌, length};
 
 use crate::datagram::Datagram;
 
-// A datagram of 1 to 136 bytes: the first `len` of `bytes`. It is no `ArrayVec`, which is not `Copy`: callers lend arrays of places.
+// A datagram of 1 to 136 bytes: the first `len` of `bytes`. No `ArrayVec`, which is not `Copy`: a caller lends an
+// array of places, as `[Place::EMPTY; 3]`.
 #[derive(Clone, Copy)]
 pub struct Place {
     len: usize,

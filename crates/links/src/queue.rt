@@ -11,9 +11,8 @@ use crate::waiting::Waiting;
 use cells::fault::Fault;
 use std::slice;
 
-// A link that keeps the order, but for what the fates say: a letter for each send, d delivered,
-// l lost, t twice, h put ahead of the last one waiting. Any other letter, or none left, means d.
-// What does not fit is lost.
+// A link that keeps the order, but for the fates: a letter for each send, as `Fate` reads it. With none left,
+// a send is delivered. What does not fit is lost.
 #[derive(Drop)]
 pub struct Queue<'a, 'f> {
     waiting: Waiting<'a>,

@@ -46,6 +46,7 @@ impl<'a> Waiting<'a> {
     }
 
     // Puts a datagram ahead of the last one that waits, if a place is free.
+    #[tactic(auto, using(crate::proofs::Places::hurried_free))]
     fn hurry(&mut self, datagram: Datagram)
         ensures waits { waits self.new ≡ hurried (room self.old) datagram.entry.bytes.now (waits self.old) }
         ensures room { room self.new ≡ room self.old }
