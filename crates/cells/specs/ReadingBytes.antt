@@ -7,7 +7,6 @@ use Rattle.std.proofs.lemmas.List.{take-append-drop, take_at, drop_at, drop_more
 use Rattle.std.proofs.lemmas.Int.{of_z-to_z, to_z-of_z}
 use Rattle.std.proofs.lemmas.Bool.{and_parts, cond-true, cond-false, cases_Bool, leb-true, eq-eqb, ltb-true}
 use Rattle.cells.specs.declared.reading.ReadingRow.{ReadingRow}
-use Rattle.cells.specs.declared.fault.Fault.{Fault}
 use Rattle.cells.specs.Cells.{cell_of}
 use Rattle.cells.specs.Faults.{answered, not_a_cell}
 use Rattle.cells.specs.Levels.{in_range}

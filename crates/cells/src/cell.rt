@@ -26,11 +26,12 @@ pub trait CellRow: Copy {
     fn width() -> usize
         ensures { result ≡ width };
 
-    // A row of the cell whose numbers are all 0.
+    // A row of the cell whose numbers are all 0. It is no `Default`, which may be any row of the kind.
     fn zero() -> Self
         ensures { bytes result ≡ nought };
 
-    // Writes the cell's bytes at the front of the buffer, and leaves the rest of it alone.
+    // Writes the cell's bytes at the front of the buffer, and leaves the rest of it alone. It is no `From`, which would
+    // need an array of the kind's width, a const argument that is computed; so `get`, its reverse, stands beside it.
     fn put(self, out: &mut [u8; 16])
         ensures { out.new ≡ bytes self ++ drop width out.old };
 
@@ -38,7 +39,7 @@ pub trait CellRow: Copy {
     fn get(from: &[u8]) -> Result<Self, Fault>
         ensures { answered bytes result ≡ cell_of reads from.now };
 
-    // Whether two rows stand for the same cell.
+    // Whether two rows stand for the same cell. It is no `==`: rows of other numbers may stand for the same cell.
     fn same(self, other: Self) -> bool
         ensures { Decides result (bytes self ≡ bytes other) };
 

@@ -21,8 +21,8 @@ pub struct Reading {
     ghost ranged: { in_range level ≡ true },
 }
 
-// A reading as it lies in memory: any three numbers. Where they make no reading, the row stands for the
-// one whose numbers are all 0.
+// A reading as it lies in memory: any three numbers, so that its quality is a number and no `Quality`. Where they
+// make no reading, the row stands for the one whose numbers are all 0.
 #[derive(Clone, Copy, PartialEq, Eq, Debug, Default)]
 pub struct ReadingRow {
     pub level: i32,
