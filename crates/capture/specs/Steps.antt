@@ -1,5 +1,6 @@
 -- Reading a line a character at a time. Assumes nothing.
 use Rattle.std.specs.Prelude.{◌≡◌, ℕ, ◌+◌, ◌*◌, cond, List, [], ◌∷◌, ◌++◌, length, Some, None, Option, ◌==◌, nat_lt}
+use Rattle.std.specs.List.{fold}
 use Rattle.capture.specs.declared.line.Nibble.{Nibble}
 use Rattle.capture.specs.declared.line.Stage.{Stage}
 use Rattle.capture.specs.declared.line.Stage.TheVariants.{Gap, Half, Joint, Broken}
@@ -65,8 +66,7 @@ ended l = ended_at l.due l.bytes
 
 -- all the characters of a text
 abbrev pub read : LineMeaning → List ℕ → LineMeaning
-read l [] = l
-read l (c ∷ cs) = read (pushed l c) cs
+read l cs = fold pushed l cs
 
 -- whatever a line holds, a character after the other gives its datagram, or none where it has none
 abbrev pub EveryLineIsRead : Type 0

@@ -7,13 +7,7 @@ use Rattle.frames.specs.Format.{entries_of}
 use Rattle.frames.specs.Frames.{places}
 use Rattle.frames.specs.Meaning.{FrameMeaning, encoded}
 use Rattle.links.specs.Calls.{send_answer, send_meaning}
-use Rattle.links.specs.declared.queue.Queue.{Queue}
 use Rattle.links.specs.Meaning.{LinkMeaning}
-use Rattle.links.specs.Queued.{queue_of}
-
--- what a queue means
-abbrev pub carrying : Queue → LinkMeaning
-carrying q = queue_of q.places.now q.used q.fates.now q.next
 
 -- the entries frame of one cell, in cycle 1
 abbrev pub frame_of : ℕ → ReadingRow → Result FrameMeaning Fault

@@ -1,6 +1,7 @@
 // Carrying cells as frames.
 ghost use Rattle.std.specs.Prelude.{◌≡◌};
-ghost use Rattle.carry_day.specs.Carried.{carrying, frame_of, sent_answer, sent_meaning};
+ghost use Rattle.carry_day.specs.Carried.{frame_of, sent_answer, sent_meaning};
+ghost use Rattle.links.specs.Queued.{queue_of};
 
 use cells::fault::Fault;
 use cells::reading::ReadingRow;
@@ -15,7 +16,7 @@ use links::queue::Queue;
 // Sends a cell as an entries frame of its page.
 pub(crate) fn send_cell(queue: &mut Queue, address: u16, cell: ReadingRow) -> Result<(), Fault>
     ensures answer { result ≡ sent_answer (frame_of address cell) }
-    ensures after { carrying queue.new ≡ sent_meaning (frame_of address cell) (carrying queue.old) }
+    ensures after { queue_of queue.new ≡ sent_meaning (frame_of address cell) (queue_of queue.old) }
 {
     let entries = Entries::new(1, address / 8, 1 << (address % 8), [cell; 8])?;
     let mut bytes = [0; 136];
@@ -26,11 +27,9 @@ pub(crate) fn send_cell(queue: &mut Queue, address: u16, cell: ReadingRow) -> Re
 // Lays the cells of an entries frame into a group.
 fn lay(entries: &Entries<ReadingRow>, group: &mut Sparse<ReadingRow>) -> Result<(), Fault> {
     let blocks = (*group).blocks();
-    for i in 0..8 {
-        if (entries.map >> i) % 2 == 1 {
-            let a = entries.page as usize * 8 + i;
-            (*group).write(a / blocks, a % blocks, entries.cells[i])?;
-        }
+    for address in entries.page.addresses() {
+        let cell = entries.cells[address % 8];
+        (*group).write(address / blocks, address % blocks, cell)?;
     }
     Ok(())
 }
@@ -41,9 +40,8 @@ fn take_one(queue: &mut Queue, group: &mut Sparse<ReadingRow>) -> Result<bool, F
     let Some(n) = queue.take(&mut buffer)? else {
         return Ok(false);
     };
-    match read::<ReadingRow>(&buffer[0..n])? {
-        Frame::Entries(entries) => lay(&entries, group)?,
-        _ => {}
+    if let Frame::Entries(entries) = read::<ReadingRow>(&buffer[0..n])? {
+        lay(&entries, group)?;
     }
     Ok(true)
 }

@@ -7,7 +7,7 @@ ghost use Rattle.groups.specs.Sparses.{sparse_of};
 
 use crate::carry::{send_cell, take_all};
 use cells::fault::Fault;
-use cells::reading::ReadingRow;
+use cells::reading::{Quality, ReadingRow};
 use groups::compare::equal;
 use groups::flat::Flat;
 use groups::group::Group;
@@ -15,12 +15,23 @@ use groups::records::Record;
 use groups::sparse::Sparse;
 use links::place::Place;
 use links::queue::Queue;
+use std::fmt;
 
 // The fates of an hour's sends: the third is lost, the fifth doubled, the sixth overtakes.
 const FATES: &[u8] = b"ddldthdd";
 
+// The gauges of a weir. Each has a volume, with a block for each quarter of an hour.
+#[derive(Clone, Copy, PartialEq, Eq, Debug)]
+enum Gauge {
+    Headwater = 0,
+    Tailwater = 1,
+}
+
+// The quarters of an hour of a day.
+const QUARTERS: u16 = 96;
+
 // What became of a day's readings.
-#[derive(Clone, Copy)]
+#[derive(Clone, Copy, Default)]
 pub struct Tally {
     pub written: u32,
     pub refused: u32,
@@ -32,84 +43,118 @@ pub struct Tally {
     pub carried: bool,
 }
 
-// The reading of a gauge at a quarter of an hour: headwater, then tailwater, rising through each half of the day.
-fn reading(gauge: u16, quarter: u16) -> ReadingRow {
-    let foot = if gauge == 0 { 4_000 } else { 1_200 };
-    ReadingRow {
-        level: foot + (quarter % 48) as i32 * 5,
-        second: quarter as u32 * 900,
-        quality: 0,
+fn yes_or_no(answer: bool) -> &'static str {
+    if answer { "yes" } else { "no" }
+}
+
+impl fmt::Display for Tally {
+    fn fmt<W: fmt::Write>(&self, f: &mut fmt::Formatter<W>) -> fmt::Result {
+        writeln!(f, "written {}", self.written)?;
+        writeln!(f, "refused {}", self.refused)?;
+        writeln!(f, "sent {}", self.sent)?;
+        writeln!(f, "lost {}", self.lost)?;
+        writeln!(f, "taken {}", self.taken)?;
+        let equal = yes_or_no(self.equal);
+        writeln!(f, "flat and sparse group equal: {equal}")?;
+        let carried = yes_or_no(self.carried);
+        writeln!(f, "flat and carried group equal: {carried}")
     }
 }
 
-// Writes a reading to both groups. Answers whether both took it.
-fn write_both(
-    flat: &mut Flat<ReadingRow>,
-    sparse: &mut Sparse<ReadingRow>,
-    v: usize,
-    b: usize,
-    row: ReadingRow,
-) -> bool
-    ensures answer { result ≡ is_ok (write_answer (sparse_of reading_bytes sparse.old) v b) && is_ok (write_answer (flat_of reading_bytes flat.old) v b) }
-    ensures flat { flat_of reading_bytes flat.new ≡ after_write (flat_of reading_bytes flat.old) v b (reading_bytes row) }
-    ensures sparse { sparse_of reading_bytes sparse.new ≡ after_write (sparse_of reading_bytes sparse.old) v b (reading_bytes row) }
-{
-    let taken = (*flat).write(v, b, row).is_ok();
-    (*sparse).write(v, b, row).is_ok() && taken
+// The groups that are written alike, the one that takes what is carried, and the queue that carries it.
+#[derive(Drop)]
+struct Day<'a> {
+    flat: Flat<'a, ReadingRow>,
+    sparse: Sparse<'a, ReadingRow>,
+    carried: Sparse<'a, ReadingRow>,
+    queue: Queue<'a, 'static>,
+    tally: Tally,
 }
 
-// Protects the second gauge's volume at 10 o'clock, and remounts it at 12.
-fn guard(
-    flat: &mut Flat<ReadingRow>,
-    sparse: &mut Sparse<ReadingRow>,
-    quarter: u16,
-) -> Result<(), Fault> {
-    match quarter {
-        40 => {
-            flat.protect(1)?;
-            sparse.protect(1)
-        }
-        48 => {
-            (*flat).remount(1)?;
-            (*sparse).remount(1)
-        }
-        _ => Ok(()),
-    }
-}
+impl Gauge {
+    const ALL: [Gauge; 2] = [Gauge::Headwater, Gauge::Tailwater];
 
-// Sends a reading, and counts it as lost where no more datagrams wait than before.
-fn carry(queue: &mut Queue, address: u16, row: ReadingRow, tally: &mut Tally) -> Result<(), Fault> {
-    let before = queue.waiting();
-    send_cell(queue, address, row)?;
-    tally.sent = tally.sent.saturating_add(1);
-    if queue.waiting() == before {
-        tally.lost = tally.lost.saturating_add(1);
-    }
-    Ok(())
-}
-
-// The readings of a quarter of an hour, written to both groups and carried where they were taken.
-fn write_quarter(
-    flat: &mut Flat<ReadingRow>,
-    sparse: &mut Sparse<ReadingRow>,
-    queue: &mut Queue,
-    quarter: u16,
-    tally: &mut Tally,
-) -> Result<(), Fault> {
-    let block = quarter % 96;
-    for gauge in 0..2u16 {
-        let row = reading(gauge, block);
-        if write_both(flat, sparse, gauge as usize, block as usize, row) {
-            tally.written = tally.written.saturating_add(1);
-            carry(queue, gauge * 96 + block, row, tally)?;
-        } else {
-            tally.refused = tally.refused.saturating_add(1);
+    // The gauge's reading at a quarter of an hour, rising through each half of the day.
+    fn reading(self, quarter: u16) -> ReadingRow {
+        let foot = match self {
+            Gauge::Headwater => 4_000,
+            Gauge::Tailwater => 1_200,
+        };
+        ReadingRow {
+            level: foot + i32::from(quarter % 48) * 5,
+            second: u32::from(quarter) * 900,
+            quality: u8::from(Quality::Good),
         }
     }
-    Ok(())
 }
 
-// The day, over lent memory: two gauges of 96 quarters of an hour.
+impl<'a> Day<'a> {
+    // Writes a reading to both groups. Answers whether both took it.
+    fn write(&mut self, v: usize, b: usize, row: ReadingRow) -> bool
+        ensures answer { result ≡ is_ok (write_answer (sparse_of reading_bytes self.old.sparse) v b) && is_ok (write_answer (flat_of reading_bytes self.old.flat) v b) }
+        ensures flat { flat_of reading_bytes self.new.flat ≡ after_write (flat_of reading_bytes self.old.flat) v b (reading_bytes row) }
+        ensures sparse { sparse_of reading_bytes self.new.sparse ≡ after_write (sparse_of reading_bytes self.old.sparse) v b (reading_bytes row) }
+    {
+        let taken = self.flat.write(v, b, row).is_ok();
+        self.sparse.write(v, b, row).is_ok() && taken
+    }
+
+    // Protects the second gauge's volume at 10 o'clock, and remounts it at 12.
+    fn guard(&mut self, quarter: u16) -> Result<(), Fault> {
+        let volume = Gauge::Tailwater as usize;
+        match quarter {
+            40 => {
+                self.flat.protect(volume)?;
+                self.sparse.protect(volume)
+            }
+            48 => {
+                self.flat.remount(volume)?;
+                self.sparse.remount(volume)
+            }
+            _ => Ok(()),
+        }
+    }
+
+    // Sends a reading, and counts it as lost where no more datagrams wait than before.
+    fn carry(&mut self, address: u16, row: ReadingRow) -> Result<(), Fault> {
+        let before = self.queue.waiting();
+        send_cell(&mut self.queue, address, row)?;
+        self.tally.sent = self.tally.sent.saturating_add(1);
+        if self.queue.waiting() == before {
+            self.tally.lost = self.tally.lost.saturating_add(1);
+        }
+        Ok(())
+    }
+
+    // The readings of a quarter of an hour, written to both groups and carried where they were taken.
+    fn write_quarter(&mut self, quarter: u16) -> Result<(), Fault> {
+        for gauge in Gauge::ALL {
+            let row = gauge.reading(quarter);
+            let volume = gauge as u16;
+            if self.write(usize::from(volume), usize::from(quarter), row) {
+                self.tally.written = self.tally.written.saturating_add(1);
+                self.carry(volume * QUARTERS + quarter % QUARTERS, row)?;
+            } else {
+                self.tally.refused = self.tally.refused.saturating_add(1);
+            }
+        }
+        Ok(())
+    }
+
+    // A quarter of an hour: what is written, sent and taken.
+    fn pass(&mut self, quarter: u16) -> Result<(), Fault> {
+        if quarter % 4 == 0 {
+            self.queue.set_fates(FATES);
+        }
+        self.guard(quarter)?;
+        self.write_quarter(quarter)?;
+        let taken = take_all(&mut self.queue, &mut self.carried)?;
+        self.tally.taken = self.tally.taken.saturating_add(taken);
+        Ok(())
+    }
+}
+
+// The day, over lent memory.
 pub(crate) fn run(
     rows: &mut [ReadingRow],
     records: &mut [Record<ReadingRow>],
@@ -119,29 +164,17 @@ pub(crate) fn run(
     Flat::test(rows, 2, 96)?;
     Sparse::test(records, 2, 96)?;
     Sparse::test(far, 2, 96)?;
-    let mut flat = Flat::over(rows, 2, 96);
-    let mut sparse = Sparse::over(records, 2, 96);
-    let mut carried = Sparse::over(far, 2, 96);
-    let mut queue = Queue::over(places, FATES);
-    let mut tally = Tally {
-        written: 0,
-        refused: 0,
-        sent: 0,
-        lost: 0,
-        taken: 0,
-        equal: false,
-        carried: false,
+    let mut day = Day {
+        flat: Flat::over(rows, 2, 96),
+        sparse: Sparse::over(records, 2, 96),
+        carried: Sparse::over(far, 2, 96),
+        queue: Queue::over(places, FATES),
+        tally: Tally::default(),
     };
-    for quarter in 0..96u16 {
-        if quarter % 4 == 0 {
-            queue.set_fates(FATES);
-        }
-        guard(&mut flat, &mut sparse, quarter)?;
-        write_quarter(&mut flat, &mut sparse, &mut queue, quarter, &mut tally)?;
-        let taken = take_all(&mut queue, &mut carried)?;
-        tally.taken = tally.taken.saturating_add(taken);
+    for quarter in 0..QUARTERS {
+        day.pass(quarter)?;
     }
-    tally.equal = equal(&flat, &sparse);
-    tally.carried = equal(&flat, &carried);
-    Ok(tally)
+    day.tally.equal = equal(&day.flat, &day.sparse);
+    day.tally.carried = equal(&day.flat, &day.carried);
+    Ok(day.tally)
 }

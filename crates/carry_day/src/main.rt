@@ -2,9 +2,8 @@
 // loses, doubles and overtakes, and tells what became of them.
 #![tactic(auto)]
 
-use crate::day::{Tally, run};
+use crate::day::run;
 use anyhow::anyhow;
-use cells::fault::Fault;
 use cells::reading::ReadingRow;
 use groups::records::Record;
 use links::place::Place;
@@ -12,30 +11,8 @@ use links::place::Place;
 mod carry;
 mod day;
 
-fn yes_or_no(answer: bool) -> &'static str {
-    if answer { "yes" } else { "no" }
-}
-
-fn tell(rt: &HostRuntime, tally: &Tally) -> anyhow::Result<()> {
-    println!(rt; "written {}", tally.written)?;
-    println!(rt; "refused {}", tally.refused)?;
-    println!(rt; "sent {}", tally.sent)?;
-    println!(rt; "lost {}", tally.lost)?;
-    println!(rt; "taken {}", tally.taken)?;
-    println!(rt; "flat and sparse group equal: {}", yes_or_no(tally.equal))?;
-    println!(rt;
-        "flat and carried group equal: {}",
-        yes_or_no(tally.carried)
-    )?;
-    Ok(())
-}
-
 fn carry_day(rt: &HostRuntime) -> anyhow::Result<()> {
-    let none = ReadingRow {
-        level: 0,
-        second: 0,
-        quality: 0,
-    };
+    let none = ReadingRow::default();
     let unused = Record {
         address: 0,
         cell: none,
@@ -46,9 +23,12 @@ fn carry_day(rt: &HostRuntime) -> anyhow::Result<()> {
     let mut far = vec![in heap; unused; 193]?;
     let mut places = vec![in heap; Place::EMPTY; 4]?;
     match run(&mut rows, &mut records, &mut far, &mut places) {
-        Ok(tally) => tell(rt, &tally),
+        Ok(tally) => {
+            print!(rt; "{tally}")?;
+            Ok(())
+        }
         Err(fault) => {
-            eprintln!(rt; "refused with {}", fault.refusal.number())?;
+            eprintln!(rt; "refused with {}", fault.refusal)?;
             Err(anyhow!("the day was not carried"))
         }
     }

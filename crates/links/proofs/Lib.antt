@@ -1,4 +1,3 @@
 pub mod Places
-pub mod QueueCalls
 pub mod Exchanges
 pub mod Takes

@@ -6,6 +6,10 @@ use Rattle.cells.specs.declared.fault.Fault.{Fault}
 use Rattle.cells.specs.Faults.{fault, not_a_frame}
 use Rattle.links.specs.Meaning.{Datagram, LinkMeaning, send, take, after, sendable}
 
+-- the datagram that some bytes are, if there are 1 to 136 of them
+abbrev pub datagram_answer : Datagram → Result Datagram Fault
+datagram_answer d = cond (sendable d) (Ok d) (Err not_a_frame)
+
 -- a send is refused exactly for bytes that are no datagram, and then alters nothing
 abbrev pub send_answer : Datagram → Result (Unit {0}) Fault
 send_answer d = cond (sendable d) (Ok tt) (Err not_a_frame)

@@ -5,8 +5,8 @@ use mathlib.Core.List.{Memᴰ}
 use Rattle.std.proofs.Common.{inl, inr, sym, subst, arith}
 use Rattle.links.specs.declared.place.Place.{Place}
 use Rattle.links.specs.Meaning.{Datagram, LinkLaws, Sized, sendable}
-use Rattle.links.specs.Placed.{sized_place}
-use Rattle.links.specs.Latched.{kept_in, latch_of, latch_step, listed}
+use Rattle.links.specs.Placed.{kept_in, sized_place}
+use Rattle.links.specs.Latched.{latch_of, latch_step, listed}
 use Rattle.links.specs.Steps.{StepLaws, laws_from}
 
 from_sent : (b : Bool) (d x : Datagram) (kept : Option Datagram) → Memᴰ x (listed (cond b (Some d) kept)) → ((b ≡ true) × (x ≡ d)) ⊎ Memᴰ x (listed kept)

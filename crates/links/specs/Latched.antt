@@ -2,7 +2,7 @@
 use Rattle.std.specs.Prelude.{cond, List, [], ◌∷◌, Some, None, Option}
 use Rattle.links.specs.declared.place.Place.{Place}
 use Rattle.links.specs.Meaning.{Datagram, LinkCall, LinkMeaning, send, take, sendable}
-use Rattle.links.specs.Placed.{datagram_of}
+use Rattle.links.specs.Placed.{kept_in}
 use Rattle.links.specs.Steps.{foretold}
 
 -- a call to a latch: it keeps the last datagram sent, and a take leaves it
@@ -18,11 +18,6 @@ listed (Some d) = d ∷ []
 -- a latch that keeps a datagram, or nothing yet: every take answers it
 abbrev pub latched : Option Datagram → LinkMeaning
 latched = foretold latch_step listed (λ (kept : Option Datagram). kept)
-
--- the datagram of a place, if there is one
-abbrev pub kept_in : Option Place → Option Datagram
-kept_in None = None
-kept_in (Some p) = Some (datagram_of p)
 
 -- the latch that keeps a place, or none yet
 abbrev pub latch_of : Option Place → LinkMeaning

@@ -2,6 +2,7 @@ pub mod Meaning
 pub mod Calls
 pub mod Steps
 pub mod Placed
+pub mod Fates
 pub mod Queued
 pub mod QueueLaws
 pub mod Latched

@@ -1,12 +1,17 @@
 -- The laws of a link hold of a queue. Assumes nothing.
-use Rattle.std.specs.Prelude.{◌≡◌, ℕ, zero, suc, Bool, true, false, cond, ◌⊎◌, List, [], ◌∷◌, ◌++◌, length, drop, Some, ◌==◌, nat_lt, refl}
+use Rattle.std.specs.Prelude.{◌≡◌, ℕ, zero, suc, Bool, true, false, cond, ◌⊎◌, List, [], ◌∷◌, ◌++◌, length, Some, nat_lt, refl}
 use mathlib.Core.List.Memᴰ
 use mathlib.Core.List.{Memᴰ}
 use Rattle.std.proofs.Common.{inl, inr, ⊎_elim, sym, subst, arith}
+use Rattle.std.specs.Slice.Iter.{iter_rest}
+use Rattle.links.specs.declared.fate.Fate.{Fate}
+use Rattle.links.specs.declared.fate.Fate.TheVariants.{Delivered, Lost, Twice, Hurried}
 use Rattle.links.specs.declared.place.Place.{Place}
+use Rattle.links.specs.declared.queue.Queue.{Queue}
+use Rattle.links.specs.Fates.{later_fates, next_fate}
 use Rattle.links.specs.Meaning.{Datagram, LinkLaws, Sized, sendable}
 use Rattle.links.specs.Placed.{datagram_of, sized_place}
-use Rattle.links.specs.Queued.{QueueState, appended, ahead_of_last, arrived, first, held, hurried, later_fates, next_fate, queue_of, queue_step, rest}
+use Rattle.links.specs.Queued.{QueueState, appended, ahead_of_last, arrived, first, held, queue_of, queue_step, rest, room, waits}
 use Rattle.links.specs.Steps.{StepLaws, laws_from}
 
 -- x is d, or one of ws
@@ -31,19 +36,11 @@ from_ahead d x (w ∷ (v ∷ ws)) m =
     (λ (k : Memᴰ x (ahead_of_last d (v ∷ ws))). ⊎_elim (λ (e : x ≡ d). inl e) (λ (u : Memᴰ x (v ∷ ws)). inr (Memᴰ.tail u)) (from_ahead d x (v ∷ ws) k))
     (Memᴰ.cases_cons m)
 
-from_twice : (n : ℕ) (d x : Datagram) (ws : List Datagram) → Memᴰ x (appended n d (appended n d ws)) → From d ws x
-from_twice n d x ws m = ⊎_elim (λ (e : x ≡ d). inl e) (from_appended n d x ws) (from_appended n d x (appended n d ws) m)
-
-from_arrived : (n f : ℕ) (d x : Datagram) (ws : List Datagram) → Memᴰ x (arrived n f d ws) → From d ws x
-from_arrived n f d x ws =
-    let plain = appended n d ws in
-    let hurry = cond (f == 104) (hurried n d ws) plain in
-    let twice = appended n d plain in
-    from_cond (f == 108) d x ws (cond (f == 116) twice hurry) ws (λ k. inr k)
-    (from_cond (f == 116) d x twice hurry ws (from_twice n d x ws)
-    (from_cond (f == 104) d x (hurried n d ws) plain ws
-    (from_cond (nat_lt (length ws) n) d x (ahead_of_last d ws) ws ws (from_ahead d x ws) (λ k. inr k))
-    (from_appended n d x ws)))
+from_arrived : (n : ℕ) (f : Fate) (d x : Datagram) (ws : List Datagram) → Memᴰ x (arrived n f d ws) → From d ws x
+from_arrived n Delivered d x ws m = from_appended n d x ws m
+from_arrived n Lost d x ws m = inr m
+from_arrived n Twice d x ws m = ⊎_elim (λ (e : x ≡ d). inl e) (from_appended n d x ws) (from_appended n d x (appended n d ws) m)
+from_arrived n Hurried d x ws m = from_cond (nat_lt (length ws) n) d x (ahead_of_last d ws) ws ws (from_ahead d x ws) (λ k. inr k) m
 
 from_sent : (b : Bool) (d x : Datagram) (s t : QueueState) → (Memᴰ x t.waits → From d s.waits x) → Memᴰ x (cond b t s).waits → ((b ≡ true) × (x ≡ d)) ⊎ Memᴰ x s.waits
 from_sent true d x s t f m = ⊎_elim (λ (e : x ≡ d). inl (refl, e)) (λ (u : Memᴰ x s.waits). inr u) (f m)
@@ -70,5 +67,9 @@ step_laws n =
       taken = λ s x. in_rest x s.waits;
     }
 
-pub queue_laws : (ps : List Place) (n : ℕ) (fs : List ℕ) (k : ℕ) → LinkLaws (queue_of ps n fs k)
-queue_laws ps n fs k = laws_from (queue_step (length ps)) (λ (s : QueueState). s.waits) (λ (s : QueueState). first s.waits) (step_laws (length ps)) (record { waits = held ps n; fates = drop k fs }) (sized_held ps n)
+pub queue_laws : (q : Queue) → LinkLaws (queue_of q)
+queue_laws q =
+    let n = room q.waiting in
+    laws_from (queue_step n) (λ (s : QueueState). s.waits) (λ (s : QueueState). first s.waits) (step_laws n)
+    (record { waits = waits q.waiting; fates = iter_rest q.fates })
+    (sized_held q.waiting.places.now q.waiting.used)

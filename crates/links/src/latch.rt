@@ -3,9 +3,10 @@ ghost use Rattle.std.specs.Prelude.{◌≡◌, None};
 ghost use Rattle.links.specs.LatchLaws.{latch_laws};
 ghost use Rattle.links.specs.Latched.{latch_of, latched};
 
-use crate::link::{Link, is_datagram};
+use crate::datagram::Datagram;
+use crate::link::{Link, hand_out};
 use crate::place::Place;
-use cells::fault::{Fault, Layer, Refusal};
+use cells::fault::Fault;
 
 // A link that keeps the last datagram sent, if there was one.
 #[derive(Drop)]
@@ -22,26 +23,26 @@ impl Latch {
     }
 }
 
+impl Default for Latch {
+    ghost is_default = { λ l. latch_of l.kept ≡ latched None };
+
+    fn default() -> Latch {
+        Latch::new()
+    }
+}
+
 impl Link for Latch {
     ghost meaning = { λ l. latch_of l.kept };
 
-    ghost lawful = { λ l. latch_laws l.kept };
-
     fn send(&mut self, datagram: &[u8]) -> Result<(), Fault> {
-        if !is_datagram(datagram) {
-            return Err(Fault::new(Refusal::NotAFrame, Layer::Frame));
-        }
-        self.kept = Some(Place::of(datagram));
+        let datagram = Datagram::try_from(datagram)?;
+        self.kept = Some(Place::from(datagram));
         Ok(())
     }
 
     fn take(&mut self, buffer: &mut [u8]) -> Result<Option<usize>, Fault> {
-        if buffer.len() < 136 {
-            return Err(Fault::new(Refusal::ShortMemory, Layer::Link));
-        }
-        match self.kept {
-            None => Ok(None),
-            Some(place) => Ok(Some(place.copy_to(buffer))),
-        }
+        hand_out(self.kept, buffer)
     }
+
+    ghost lawful = { λ l. latch_laws l.kept };
 }

@@ -1,15 +1,26 @@
 // The link trait: what sends and takes datagrams.
 ghost use Rattle.std.specs.Prelude.{◌≡◌, ℕ, []};
 ghost use Rattle.links.specs.Calls.{send_answer, send_meaning, take_answer, take_buffer, take_meaning};
-ghost use Rattle.links.specs.Meaning.{LinkLaws, LinkMeaning, sendable};
+ghost use Rattle.links.specs.Meaning.{LinkLaws, LinkMeaning};
+ghost use Rattle.links.specs.Placed.{kept_in};
 
-use cells::fault::Fault;
+use crate::place::Place;
+use cells::fault::{Fault, Layer, Refusal};
 
-// Whether a link carries the bytes: 1 to 136 of them are a datagram.
-pub(crate) fn is_datagram(bytes: &[u8]) -> bool
-    ensures { result ≡ sendable bytes.now }
+// Copies the datagram of a place, if there is one, to the buffer's front, and answers its length.
+// It refuses only a buffer of less than 136 bytes.
+pub(crate) fn hand_out(place: Option<Place>, buffer: &mut [u8]) -> Result<Option<usize>, Fault>
+    ensures answer { result ≡ take_answer buffer.old (kept_in place) }
+    ensures buffer { buffer.new ≡ take_buffer buffer.old (kept_in place) }
 {
-    bytes.len() >= 1 && bytes.len() <= 136
+    let front = buffer
+        .first_chunk_mut()
+        .ok_or(Fault::new(Refusal::ShortMemory, Layer::Link))?;
+    // No `map`: of a buffer that a closure wrote to, nothing is known after it.
+    match place {
+        Some(place) => Ok(Some(place.copy_to(front))),
+        None => Ok(None),
+    }
 }
 
 // What carries datagrams of 1 to 136 bytes, and may lose, repeat or reorder them. It foretells what
@@ -17,9 +28,6 @@ pub(crate) fn is_datagram(bytes: &[u8]) -> bool
 pub trait Link {
     // What waits and what is answered, now and after any further calls.
     ghost meaning: { Self → LinkMeaning };
-
-    // The laws of every link: nothing waits or is taken but what was sent.
-    ghost lawful: { (l : Self) → LinkLaws (meaning l) };
 
     // Hands a datagram to the link. It refuses only a length of 0 or above 136.
     fn send(&mut self, datagram: &[u8]) -> Result<(), Fault>
@@ -32,4 +40,7 @@ pub trait Link {
         ensures answer { result ≡ take_answer buffer.old ((meaning self.old).answer []) }
         ensures buffer { buffer.new ≡ take_buffer buffer.old ((meaning self.old).answer []) }
         ensures after { meaning self.new ≡ take_meaning buffer.old (meaning self.old) };
+
+    // The laws of every link: nothing waits or is taken but what was sent.
+    ghost lawful: { (l : Self) → LinkLaws (meaning l) };
 }

@@ -1,5 +1,6 @@
 -- A capture read a byte at a time. Assumes nothing.
 use Rattle.std.specs.Prelude.{◌≡◌, ℕ, Bool, true, false, cond, List, [], ◌∷◌, ◌++◌, Some, None, Option, is_some, ◌==◌, ◌≢◌}
+use Rattle.std.specs.List.{fold}
 use Rattle.capture.specs.Hex.{datagram_of}
 use Rattle.capture.specs.declared.line.HexLine.{HexLine}
 use Rattle.capture.specs.Steps.{LineMeaning, line_of, blank, pushed, ended}
@@ -35,8 +36,7 @@ module _ (w : ℕ) (reads : List ℕ → Bool) where
   byte_read d b = cond (b == 10) (line_ended d) (record { line = pushed d.line b; begun = true; tally = d.tally })
 
   abbrev pub bytes_read : DumpMeaning → List ℕ → DumpMeaning
-  bytes_read d [] = d
-  bytes_read d (b ∷ bs) = bytes_read (byte_read d b) bs
+  bytes_read d bs = fold byte_read d bs
 
   -- the input ends here: so does a line that has begun
   abbrev pub finished : DumpMeaning → DumpMeaning
@@ -44,8 +44,7 @@ module _ (w : ℕ) (reads : List ℕ → Bool) where
 
   -- lines, each counted by what it spells
   abbrev pub lines_counted : Tally → List (List ℕ) → Tally
-  lines_counted t [] = t
-  lines_counted t (l ∷ ls) = lines_counted (counted (line_outcome (heard w reads (datagram_of l))) t) ls
+  lines_counted t ls = fold (λ u l. counted (line_outcome (heard w reads (datagram_of l))) u) t ls
 
 -- a line has no line feed
 abbrev pub Unbroken : List ℕ → Type 0

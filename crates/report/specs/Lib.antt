@@ -1,4 +1,3 @@
-pub mod Lines
 pub mod Reports
 pub mod Tallies
 pub mod Dumping

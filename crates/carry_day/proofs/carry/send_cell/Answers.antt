@@ -5,7 +5,8 @@ use Rattle.cells.specs.Readings.{reading_bytes}
 use Rattle.frames.specs.Frames.{of_entries}
 use Rattle.frames.specs.Meaning.{FrameMeaning, encoded}
 use Rattle.links.specs.Calls.{send_answer, send_meaning}
-use Rattle.carry_day.specs.Carried.{carrying, frame_of, sent_answer, sent_meaning}
+use Rattle.links.specs.Queued.{queue_of}
+use Rattle.carry_day.specs.Carried.{frame_of, sent_answer, sent_meaning}
 use Rattle.carry_day.proofs.Sending.{front, made, one_bit, unmade}
 use Rattle.carry_day.proofs.carry.send_cell.Goals as goal
 
@@ -15,12 +16,12 @@ returns-in_err-entries c =
     let x = c.in_err-entries.field-0.0 in
     let p = err_from_is_err_and c.from_residual.result c.from_residual.ensures.1 in
     let e : f ≡ Err x = unmade (of_entries reading_bytes) c.new.result f x (c.new.ensures ∙ one_bit c.args.address c.args.cell) c.in_err-entries.was in
-    rw (p.1, p.2) record { answer = ap sent_answer (sym e); after = ap (λ (r : Result FrameMeaning Fault). sent_meaning r (carrying c.args.queue.now)) (sym e) }
+    rw (p.1, p.2) record { answer = ap sent_answer (sym e); after = ap (λ (r : Result FrameMeaning Fault). sent_meaning r (queue_of c.args.queue.now)) (sym e) }
 
 pub returns : goal.returns
 returns c =
     let f = frame_of c.args.address c.args.cell in
-    let q = carrying c.args.queue.now in
+    let q = queue_of c.args.queue.now in
     let x = of_entries reading_bytes c.in_ok-entries.entries in
     let n = c.write-n.result in
     let e : f ≡ Ok x = made (of_entries reading_bytes) c.new.result f c.in_ok-entries.entries (c.new.ensures ∙ one_bit c.args.address c.args.cell) c.in_ok-entries.was in

@@ -7,5 +7,5 @@ use Rattle.carry_day.proofs.carry.take_one.Goals as goal
 pub slice_bounds-read-end : goal.slice_bounds-read-end
 slice_bounds-read-end c =
     let q = c.args.queue.now in
-    let h = taken_fits (queue_of q.places.now q.used q.fates.now q.next) (queue_laws q.places.now q.used q.fates.now q.next) (replicate 136 0) c.in-Some.n (sym c.take.ensures.answer ∙ c.in_ok-n.was ∙ ap Ok c.in-Some.is) in
+    let h = taken_fits (queue_of q) (queue_laws q) (replicate 136 0) c.in-Some.n (sym c.take.ensures.answer ∙ c.in_ok-n.was ∙ ap Ok c.in-Some.is) in
     search rules

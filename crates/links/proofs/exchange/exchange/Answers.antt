@@ -13,7 +13,7 @@ returns-in_err-send g c =
     let r : c.from_residual.result ≡ exchange_answer d b m = search rules in
     let l : b ≡ exchange_buffer d b m = simp no in
     let left : g.L.Link.meaning c.send.new.self ≡ exchange_meaning d b m = c.send.ensures.after ∙ simp no in
-    let laws = g.L.Link.lawful in
+    let laws = g.met.L.Link.lawful in
     record {
       answer = r;
       buffer = l;
@@ -33,7 +33,7 @@ returns g c =
     let r = answer_then d b m v ok sent c.take.result c.take.ensures.answer in
     let l = buffer_then d b m v ok sent c.take.new.buffer c.take.ensures.buffer in
     let left = meaning_then d b m v ok sent (g.L.Link.meaning c.take.new.self) c.take.ensures.after in
-    let laws = g.L.Link.lawful in
+    let laws = g.met.L.Link.lawful in
     record {
       answer = r;
       buffer = l;

@@ -5,9 +5,3 @@ use Rattle.report.proofs.told.push_datagram.Goals as goal
 
 pub read-requires : goal.read-requires
 read-requires g c = frame_fits (align (lone g.row.R.mir)) (size (lone g.row.R.mir)) g.met.R.CellRow.aligned g.met.R.CellRow.compact
-
-pub push_frame-requires : goal.push_frame-requires
-push_frame-requires g c = frame_fits (align (lone g.row.R.mir)) (size (lone g.row.R.mir)) g.met.R.CellRow.aligned g.met.R.CellRow.compact
-
-pub outcome_of-requires : goal.outcome_of-requires
-outcome_of-requires g c = frame_fits (align (lone g.row.R.mir)) (size (lone g.row.R.mir)) g.met.R.CellRow.aligned g.met.R.CellRow.compact
