@@ -105,6 +105,21 @@ mod tests {
     }
 
     #[test]
+    fn a_page_is_told_by_its_addresses(rt: HostRuntime) -> Result<(), Fail> {
+        let Ok(held) = Held::new(7, 511, 0x81) else {
+            return Err(Fail::new("refused"));
+        };
+        let mut addresses = held.page.addresses();
+        assert!(rt; addresses.next() == Some(4_088) && addresses.next() == Some(4_095));
+        assert!(rt; addresses.next() == None);
+        let Ok(text) = held.to_string(rt.alloc()) else {
+            return Err(Fail::new("no memory"));
+        };
+        assert!(rt; text.as_str() == "held 7 511 4088 4095");
+        Ok(())
+    }
+
+    #[test]
     fn no_frame_is_made_that_reading_would_refuse(rt: HostRuntime) {
         assert!(rt;
             Marker::new(0, 0).is_err()

@@ -26,10 +26,6 @@ length-paged k c p rest =
 pub length_whole : (c : ℕ) → length (encoded (whole c)) ≡ 5
 length_whole c = let e = length-be 4 c in omega arith
 
--- a buffer whose front was written
-pub fronted : (n : ℕ) (old u v : List ℕ) → u ≡ v → u ++ drop n old ≡ v ++ drop n old
-fronted n old u v e = ap (λ (l : List ℕ). l ++ drop n old) e
-
 -- an entries frame: a head of eight bytes, and then what was laid into the rest of the buffer
 pub entries_laid : (c p m r : ℕ) (ps : Places) (old u new : List ℕ) → map_of ps ≡ m → length old ≡ 136 → u ≡ 7 ∷ (be 4 c ++ (be 2 p ++ (m ∷ []))) → length new ≡ 128 → new ≡ bodies ps ++ drop r (take 128 (drop 8 (u ++ drop 8 old))) → put_mid 8 128 (u ++ drop 8 old) new ≡ encoded (entries c p ps) ++ drop (8 + r) old
 entries_laid c p m r ps old u new e l f k g =

@@ -1,6 +1,5 @@
 pub mod Places
 pub mod KindOf
-pub mod Pages
 pub mod Lowest
 pub mod Walking
 pub mod Telling

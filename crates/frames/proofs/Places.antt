@@ -14,7 +14,7 @@ module _ {R : Type 0} (bytes : R → List ℕ) where
   place_down m r h = simp (ne_eqb (m % 2) 1 h)
 
   -- a statement about the first place, by its bit
-  pub by_bit : (P : Option (List ℕ) → Type 0) (m : ℕ) (r : R) → (m % 2 ≡ 1 → P (Some (bytes r))) → ((m % 2 ≡ 1 → ⊥) → P None) → P (place bytes m r)
+  by_bit : (P : Option (List ℕ) → Type 0) (m : ℕ) (r : R) → (m % 2 ≡ 1 → P (Some (bytes r))) → ((m % 2 ≡ 1 → ⊥) → P None) → P (place bytes m r)
   by_bit P m r up down = ⊎_elim (λ b. subst P (sym (place_up m r b)) (up b)) (λ b. subst P (sym (place_down m r b)) (down b)) (cases_eq (m % 2) 1)
 
   pub length-places : (m : ℕ) (rs : List R) → length (places bytes m rs) ≡ length rs

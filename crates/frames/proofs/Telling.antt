@@ -8,12 +8,19 @@ use Rattle.frames.proofs.Walking.{cell_at, over_page}
 use Rattle.std.specs.declared.fmt.Formatter.{Formatter}
 use Rattle.std.specs.Fmt.{HasWritten, IsPlainFormatter}
 use Rattle.std.specs.List.{flat_map}
-use Rattle.std.proofs.lemmas.List.{append-nil}
+use Rattle.std.proofs.lemmas.List.{append_assoc, append-nil, flat_map_more}
 
 -- what is told of the addresses so far, and that those and the ones still to come are all
 pub record Told {W : Type 0} (took : W → List ℕ → W → Type 0) (tell : ℕ → List ℕ) (all : List ℕ) (first now : Formatter W) (so_far left : List ℕ) : Type 0 where
   pub wrote : IsPlainFormatter first → HasWritten took first (flat_map tell so_far) now
   pub order : so_far ++ left ≡ all
+
+pub told_more : {W : Type 0} (took : W → List ℕ → W → Type 0) (tell : ℕ → List ℕ) (all : List ℕ) (first now next : Formatter W) (so_far from left : List ℕ) (x : ℕ) → from ≡ x ∷ left → (IsPlainFormatter now → HasWritten took now (tell x) next) → Told took tell all first now so_far from → Told took tell all first next (so_far ++ (x ∷ [])) left
+told_more took tell all first now next so_far from left x e h v =
+    record {
+      wrote = λ plain. let w = v.wrote plain in has_written_of_eq took _ _ _ _ (flat_map_more tell [] so_far x) (has_written_append took _ _ _ _ _ w (h w.plain));
+      order = append_assoc so_far (x ∷ []) left ∙ ap (λ (l : List ℕ). so_far ++ l) (sym e) ∙ v.order;
+    }
 
 pub told_all : {W : Type 0} (took : W → List ℕ → W → Type 0) (tell : ℕ → List ℕ) (all : List ℕ) (first now : Formatter W) (so_far left : List ℕ) → left ≡ [] → Told took tell all first now so_far left → flat_map tell so_far ≡ flat_map tell all
 told_all took tell all first now so_far left e v = ap (flat_map tell) (sym (append-nil so_far) ∙ ap (λ (l : List ℕ). so_far ++ l) (sym e) ∙ v.order)

@@ -1,6 +1,6 @@
 pub mod Meaning
-pub mod Kinds
 pub mod Format
+pub mod Kinds
 pub mod Addressed
 pub mod Frames
 pub mod Texts

@@ -13,7 +13,8 @@ pub struct Page {
     ghost some: { (1 ≤ map) × (map < 256) },
 }
 
-// Entries of the addresses of a page: `cells[i]` for bit i. Rows whose bit is down mean nothing.
+// Entries of the addresses of a page: `cells[i]` for bit i. Rows whose bit is down mean nothing, so entries
+// have no `==`, which would compare those too.
 #[derive(Debug, Drop)]
 pub struct Entries<R> {
     pub page: Page,

@@ -1,6 +1,6 @@
 // Kinds of frame, by their first byte.
 ghost use Rattle.std.specs.Prelude.{◌≡◌, ℕ};
-ghost use Rattle.frames.specs.Kinds.{kind_of};
+ghost use Rattle.frames.specs.Kinds.{kind_byte, kind_of};
 
 use crate::make::not_a_frame;
 use cells::fault::Fault;
@@ -28,5 +28,13 @@ impl TryFrom<u8> for Kind {
             0x13 => Ok(Kind::Held),
             _ => Err(not_a_frame()),
         }
+    }
+}
+
+impl From<Kind> for u8 {
+    ghost from_gives = { λ kind byte. byte ≡ kind_byte kind };
+
+    fn from(kind: Kind) -> u8 {
+        kind as u8
     }
 }

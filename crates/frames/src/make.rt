@@ -9,12 +9,12 @@ use cells::cell::CellRow;
 use cells::fault::{Fault, Layer, Refusal};
 
 // One above the highest cycle number of a frame.
-pub(crate) const NO_CYCLE: u32 = 4_294_967_295;
+const NO_CYCLE: u32 = 4_294_967_295;
 
 // The highest page, and the most entries of a delta set.
-pub(crate) const LAST_PAGE: u16 = 511;
+const LAST_PAGE: u16 = 511;
 
-pub(crate) const MOST_ENTRIES: u16 = 4_096;
+const MOST_ENTRIES: u16 = 4_096;
 
 pub(crate) fn not_a_frame() -> Fault
     ensures { result ≡ not_a_frame }

@@ -2,7 +2,8 @@
 ghost use Rattle.std.specs.Prelude.{◌≡◌, ℕ, ◌+◌, ◌*◌, ◌≤◌, length, take, drop, count_ones};
 ghost use Rattle.cells.specs.Cells.{cell_of};
 ghost use Rattle.cells.specs.Faults.{answered};
-ghost use Rattle.frames.specs.Format.{Exact, decoded, decoded_entries, decoded_held, decoded_marker, decoded_whole, entries_in, parted};
+ghost use Rattle.frames.specs.Format.{Exact, decoded, parted};
+ghost use Rattle.frames.specs.Kinds.{entries_behind, fields_as, held_behind, marker_behind, whole_behind};
 ghost use Rattle.frames.specs.Frames.{CellsOf, Written, meaning, of_entries, of_held, of_marker, of_whole};
 
 use crate::frame::{Entries, Frame, Held, Marker, Page, Whole};
@@ -30,9 +31,13 @@ fn read_cells<R: CellRow>(page: Page, bytes: &[u8]) -> Result<[R; 8], Fault>
     Ok(cells)
 }
 
-fn read_entries<R: CellRow>(page: Page, bytes: &[u8]) -> Result<Entries<R>, Fault>
-    ensures { answered (of_entries R.CellRow.bytes) result ≡ entries_in R.CellRow.width R.CellRow.reads page.cycle page.number page.map bytes.now }
+fn read_entries<R: CellRow>(cycle: u32, fields: &[u8]) -> Result<Entries<R>, Fault>
+    ensures { answered (of_entries R.CellRow.bytes) result ≡ entries_behind R.CellRow.width R.CellRow.reads cycle fields.now }
 {
+    let [a, b, map, bytes @ ..] = fields else {
+        return Err(not_a_frame());
+    };
+    let page = Page::new(cycle, u16::from_be_bytes([*a, *b]), *map)?;
     if bytes.len() != cells_len::<R>(page.map) {
         return Err(not_a_frame());
     }
@@ -40,67 +45,55 @@ fn read_entries<R: CellRow>(page: Page, bytes: &[u8]) -> Result<Entries<R>, Faul
     Ok(Entries { page, cells })
 }
 
-fn read_page<R: CellRow>(bytes: &[u8]) -> Result<Entries<R>, Fault>
-    ensures { answered (of_entries R.CellRow.bytes) result ≡ decoded_entries R.CellRow.width R.CellRow.reads bytes.now }
+fn read_marker(cycle: u32, fields: &[u8]) -> Result<Marker, Fault>
+    ensures { answered of_marker result ≡ marker_behind cycle fields.now }
 {
-    match bytes {
-        [_, a, b, c, d, e, f, map, cells @ ..] => {
-            let cycle = u32::from_be_bytes([*a, *b, *c, *d]);
-            let number = u16::from_be_bytes([*e, *f]);
-            let page = Page::new(cycle, number, *map)?;
-            read_entries(page, cells)
-        }
-        _ => Err(not_a_frame()),
-    }
+    let [a, b] = fields else {
+        return Err(not_a_frame());
+    };
+    let count = u16::from_be_bytes([*a, *b]);
+    Marker::new(cycle, count)
 }
 
-fn read_marker(bytes: &[u8]) -> Result<Marker, Fault>
-    ensures { answered of_marker result ≡ decoded_marker bytes.now }
+fn read_held(cycle: u32, fields: &[u8]) -> Result<Held, Fault>
+    ensures { answered of_held result ≡ held_behind cycle fields.now }
 {
-    match bytes {
-        [_, a, b, c, d, e, f] => {
-            let cycle = u32::from_be_bytes([*a, *b, *c, *d]);
-            let count = u16::from_be_bytes([*e, *f]);
-            Marker::new(cycle, count)
-        }
-        _ => Err(not_a_frame()),
-    }
+    let [a, b, map] = fields else {
+        return Err(not_a_frame());
+    };
+    Held::new(cycle, u16::from_be_bytes([*a, *b]), *map)
 }
 
-fn read_held(bytes: &[u8]) -> Result<Held, Fault>
-    ensures { answered of_held result ≡ decoded_held bytes.now }
+fn read_whole(cycle: u32, fields: &[u8]) -> Result<Whole, Fault>
+    ensures { answered of_whole result ≡ whole_behind cycle fields.now }
 {
-    match bytes {
-        [_, a, b, c, d, e, f, map] => {
-            let cycle = u32::from_be_bytes([*a, *b, *c, *d]);
-            let page = u16::from_be_bytes([*e, *f]);
-            Held::new(cycle, page, *map)
-        }
-        _ => Err(not_a_frame()),
+    if !fields.is_empty() {
+        return Err(not_a_frame());
     }
+    Whole::new(cycle)
 }
 
-fn read_whole(bytes: &[u8]) -> Result<Whole, Fault>
-    ensures { answered of_whole result ≡ decoded_whole bytes.now }
+// The fields behind a frame's kind and cycle.
+fn read_fields<R: CellRow>(kind: Kind, cycle: u32, fields: &[u8]) -> Result<Frame<R>, Fault>
+    ensures { answered (meaning R.CellRow.bytes) result ≡ fields_as R.CellRow.width R.CellRow.reads kind cycle fields.now }
 {
-    match bytes {
-        [_, a, b, c, d] => Whole::new(u32::from_be_bytes([*a, *b, *c, *d])),
-        _ => Err(not_a_frame()),
+    match kind {
+        Kind::Entries => Ok(Frame::Entries(read_entries(cycle, fields)?)),
+        Kind::Marker => Ok(Frame::Marker(read_marker(cycle, fields)?)),
+        Kind::Held => Ok(Frame::Held(read_held(cycle, fields)?)),
+        Kind::Whole => Ok(Frame::Whole(read_whole(cycle, fields)?)),
     }
 }
 
 fn parse<R: CellRow>(bytes: &[u8]) -> Result<Frame<R>, Fault>
     ensures { answered (meaning R.CellRow.bytes) result ≡ decoded R.CellRow.width R.CellRow.reads bytes.now }
 {
-    let [kind, ..] = bytes else {
+    let [first, a, b, c, d, fields @ ..] = bytes else {
         return Err(not_a_frame());
     };
-    match Kind::try_from(*kind)? {
-        Kind::Entries => Ok(Frame::Entries(read_page(bytes)?)),
-        Kind::Marker => Ok(Frame::Marker(read_marker(bytes)?)),
-        Kind::Held => Ok(Frame::Held(read_held(bytes)?)),
-        Kind::Whole => Ok(Frame::Whole(read_whole(bytes)?)),
-    }
+    let kind = Kind::try_from(*first)?;
+    let cycle = u32::from_be_bytes([*a, *b, *c, *d]);
+    read_fields(kind, cycle, fields)
 }
 
 // Reads a datagram as a frame of a kind of cells, or refuses it: with 12 where no frame is written so,

@@ -1,12 +1,24 @@
 // Writing a frame as bytes.
-ghost use Rattle.std.specs.Prelude.{◌≡◌, ℕ, ◌+◌, ◌≤◌, List, ◌++◌, length, take, drop, Ok};
+ghost use Rattle.std.specs.Prelude.{◌≡◌, ℕ, ◌+◌, ◌≤◌, List, [], ◌∷◌, ◌++◌, length, take, drop, Ok};
+ghost use Rattle.cells.specs.Numbers.{be};
 ghost use Rattle.frames.specs.Format.{decoded};
 ghost use Rattle.frames.specs.Frames.{meaning, of_entries, of_held, of_marker, of_whole, places};
+ghost use Rattle.frames.specs.Kinds.{kind_byte};
 ghost use Rattle.frames.specs.Meaning.{bodies, encoded};
 
-use crate::frame::{Entries, Frame, Held, Marker, Whole};
+use crate::frame::{Entries, Frame, Held, Marker, Page, Whole};
 use crate::kind::Kind;
 use cells::cell::{CellRow, write_cell};
+
+// The bytes that the frames of a page begin with.
+#[tactic(auto, using(cells::specs::BigEndian::be_two, cells::specs::BigEndian::be_four))]
+fn page_head(kind: Kind, page: Page) -> [u8; 8]
+    ensures { result ≡ kind_byte kind ∷ (be 4 page.cycle ++ (be 2 page.number ++ (page.map ∷ []))) }
+{
+    let [a, b, c, d] = page.cycle.to_be_bytes();
+    let [e, f] = page.number.to_be_bytes();
+    [u8::from(kind), a, b, c, d, e, f, page.map]
+}
 
 // A cell's bytes, at a place.
 fn put_at<R: CellRow>(cell: R, out: &mut [u8], at: usize)
@@ -37,13 +49,14 @@ fn write_cells<R: CellRow>(entries: &Entries<R>, out: &mut [u8]) -> usize
     at
 }
 
+#[tactic(auto, using(cells::specs::BigEndian::be_two, cells::specs::BigEndian::be_four))]
 fn write_marker(marker: &Marker, out: &mut [u8; 136]) -> usize
     ensures size { result ≡ length (encoded (of_marker marker.now)) }
     ensures laid { out.new ≡ encoded (of_marker marker.now) ++ drop result out.old }
 {
     let [a, b, c, d] = marker.cycle.to_be_bytes();
     let [e, f] = marker.count.to_be_bytes();
-    out[0..7].copy_from_slice(&[Kind::Marker as u8, a, b, c, d, e, f]);
+    out[0..7].copy_from_slice(&[u8::from(Kind::Marker), a, b, c, d, e, f]);
     7
 }
 
@@ -51,19 +64,17 @@ fn write_held(held: &Held, out: &mut [u8; 136]) -> usize
     ensures size { result ≡ length (encoded (of_held held.now)) }
     ensures laid { out.new ≡ encoded (of_held held.now) ++ drop result out.old }
 {
-    let page = &held.page;
-    let [a, b, c, d] = page.cycle.to_be_bytes();
-    let [e, f] = page.number.to_be_bytes();
-    out[0..8].copy_from_slice(&[Kind::Held as u8, a, b, c, d, e, f, page.map]);
+    out[0..8].copy_from_slice(&page_head(Kind::Held, held.page));
     8
 }
 
+#[tactic(auto, using(cells::specs::BigEndian::be_two, cells::specs::BigEndian::be_four))]
 fn write_whole(whole: &Whole, out: &mut [u8; 136]) -> usize
     ensures size { result ≡ length (encoded (of_whole whole.now)) }
     ensures laid { out.new ≡ encoded (of_whole whole.now) ++ drop result out.old }
 {
     let [a, b, c, d] = whole.cycle.to_be_bytes();
-    out[0..5].copy_from_slice(&[Kind::Whole as u8, a, b, c, d]);
+    out[0..5].copy_from_slice(&[u8::from(Kind::Whole), a, b, c, d]);
     5
 }
 
@@ -71,10 +82,7 @@ fn write_entries<R: CellRow>(entries: &Entries<R>, out: &mut [u8; 136]) -> usize
     ensures size { result ≡ length (encoded (of_entries R.CellRow.bytes entries.now)) }
     ensures laid { out.new ≡ encoded (of_entries R.CellRow.bytes entries.now) ++ drop result out.old }
 {
-    let page = &entries.page;
-    let [a, b, c, d] = page.cycle.to_be_bytes();
-    let [e, f] = page.number.to_be_bytes();
-    out[0..8].copy_from_slice(&[Kind::Entries as u8, a, b, c, d, e, f, page.map]);
+    out[0..8].copy_from_slice(&page_head(Kind::Entries, entries.page));
     8 + write_cells(entries, &mut out[8..136])
 }
 
