@@ -14,11 +14,14 @@ mod tests {
     use std::test::Fail;
 
     // A datagram is told by its number: it has so many bytes, and each is that number.
-    fn send<L: Link>(rt: &impl Abort, link: &mut L, number: u8) -> Result<(), Fail> {
-        let bytes = [number; 136];
-        let n = number as usize;
+    fn datagram<'a>(rt: &impl Abort, bytes: &'a [u8; 136]) -> &'a [u8] {
+        let n = bytes[0] as usize;
         assert!(rt; n <= 136);
-        link.send(&bytes[..n])?;
+        &bytes[..n]
+    }
+
+    fn send<L: Link>(rt: &impl Abort, link: &mut L, number: u8) -> Result<(), Fail> {
+        link.send(datagram(rt, &[number; 136]))?;
         Ok(())
     }
 
@@ -207,11 +210,8 @@ mod tests {
         sent: u8,
         taken: Option<u8>,
     ) -> Result<(), Fail> {
-        let bytes = [sent; 136];
-        let n = sent as usize;
-        assert!(rt; n <= 136);
         let mut buffer = [0xaa; 136];
-        let answer = exchange(link, &bytes[..n], &mut buffer)?;
+        let answer = exchange(link, datagram(rt, &[sent; 136]), &mut buffer)?;
         came(rt, answer, &buffer, taken);
         Ok(())
     }

@@ -16,6 +16,7 @@ use std::slice;
 #[derive(Drop)]
 pub struct Queue<'a, 'f> {
     waiting: Waiting<'a>,
+    // The letters of the sends to come.
     fates: slice::Iter<'f, u8>,
 }
 
@@ -46,7 +47,7 @@ impl<'a, 'f> Queue<'a, 'f> {
     }
 }
 
-impl<'a, 'f> Link for Queue<'a, 'f> {
+impl Link for Queue<'_, '_> {
     ghost meaning = { queue_of };
 
     fn send(&mut self, datagram: &[u8]) -> Result<(), Fault> {

@@ -5,7 +5,8 @@ use crate::datagram::Datagram;
 use crate::fate::Fate;
 use crate::place::Place;
 
-// Datagrams in lent places, of which the first `used` are in use.
+// Datagrams in the first `used` places, the first one in front. The caller lends the places, since a link allocates
+// nothing.
 #[derive(Drop)]
 pub(crate) struct Waiting<'a> {
     places: &'a mut [Place],
