@@ -83,6 +83,33 @@ mod tests {
         )
     }
 
+    #[test]
+    fn a_group_is_made_where_its_test_is_passed(rt: HostRuntime) -> Result<(), Fail> {
+        let shape = Fault::new(Refusal::WrongShape, Layer::Pair);
+        let short = Fault::new(Refusal::ShortMemory, Layer::Pair);
+        let mut rows = [EMPTY; 6];
+        refused(&rt, Flat::new(&mut rows, 9, 1), shape)?;
+        refused(&rt, Flat::new(&mut rows, 1, 7), short)?;
+        let mut flat = accepted(Flat::new(&mut rows, 2, 3))?;
+        accepted(flat.write(1, 2, block(1)))?;
+        assert!(rt; accepted(flat.read(1, 2))?.same(block(1)) && flat.taken(1) == Ok(1));
+        assert!(rt; rows[5].same(block(1)));
+        let mut records = [Record {
+            address: 0,
+            cell: EMPTY,
+        }; 7];
+        refused(&rt, Sparse::new(&mut records, 0, 1), shape)?;
+        match Sparse::new(&mut records, 7, 1) {
+            Ok(_) => return Err(Fail::new("taken")),
+            Err(fault) => assert!(rt; fault == short),
+        }
+        let mut sparse = accepted(Sparse::new(&mut records, 2, 3))?;
+        accepted(sparse.write(0, 1, block(2)))?;
+        assert!(rt; accepted(sparse.read(0, 1))?.same(block(2)));
+        assert!(rt; records[1].address == 1 && records[1].cell.same(block(2)));
+        Ok(())
+    }
+
     // Every call that a place beyond the group's is handed to, with the fault that it must give.
     fn beyond<G: Group<RawBlock>>(rt: &impl Abort, group: &mut G) -> Result<(), Fail> {
         let volume = Fault::in_volume(Refusal::NoSuchPlace, 2);

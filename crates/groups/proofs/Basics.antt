@@ -1,19 +1,13 @@
 -- Small facts that the proofs of groups share. Assumes nothing.
-use Rattle.std.proofs.Common.{◌≡◌, ℕ, ◌*◌, ◌<◌, Bool, true, false, cond, ltb, List, [], ◌∷◌, refl, arith}
+use Rattle.std.proofs.Common.{◌≡◌, ℕ, ◌*◌, ◌<◌, ◌≤◌, Bool, true, false, cond, ltb, refl, mul-le-mul, arith}
 use Rattle.std.proofs.lemmas.Nat.{mul-add-lt}
 use Rattle.std.proofs.lemmas.Bool.{and_parts, ltb-true}
-use Rattle.std.specs.List.{AllByRecursion}
-use Rattle.groups.specs.Meaning.{address_in, inside_of}
+use Rattle.groups.specs.Meaning.{Shaped, address_in, inside_of}
 
 -- a function of a choice is a choice of its values
 pub over_cond : {X Y : Type 0} (f : X → Y) (b : Bool) (x y : X) → f (cond b x y) ≡ cond b (f x) (f y)
 over_cond f true x y = refl
 over_cond f false x y = refl
-
--- what holds of everything holds of each element
-pub all_of : {X : Type 0} (P : X → Type 0) → ((x : X) → P x) → (xs : List X) → AllByRecursion P xs
-all_of P f [] = tt
-all_of P f (x ∷ xs) = (f x, all_of P f xs)
 
 -- a place within the shape, by its volume and block, and its address
 module _ (volumes blocks v b : ℕ) (h : inside_of volumes blocks v b ≡ true) where
@@ -22,3 +16,7 @@ module _ (volumes blocks v b : ℕ) (h : inside_of volumes blocks v b ≡ true) 
 
   pub address_below : address_in blocks v b < volumes * blocks
   address_below = omega (arith, mul-add-lt v blocks b volumes within.0 within.1)
+
+-- a group has few addresses
+pub few : (volumes blocks : ℕ) → Shaped volumes blocks → volumes * blocks ≤ 4096
+few volumes blocks h = omega (arith, mul-le-mul h.1 h.3)

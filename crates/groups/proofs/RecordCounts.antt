@@ -1,26 +1,29 @@
 -- How many addresses have a record. Assumes nothing.
-use Rattle.std.proofs.Common.{◌≡◌, ℕ, zero, suc, ◌+◌, ◌<◌, ◌≤◌, Bool, true, false, cond, eqb, map, get_or, set, sum, count_by, sym, refl, ap, ◌∙◌, ⊎_elim, arith, length-set, eq-eqb, ne_eqb}
-use Rattle.std.proofs.lemmas.List.FromFn.{fill_by_all, get_or-map-range_with_len, length-range_with_len, length-map-range_with_len}
-use Rattle.std.proofs.lemmas.List.{get_or-set_other, get_or-set_same}
-use Rattle.std.proofs.lemmas.List.Sums.{count_by-le-length, sum-map, sum_by-cons, sum_by-set}
-use Rattle.std.proofs.lemmas.Bool.{cases_eq}
+use Rattle.std.proofs.Common.{◌≡◌, ℕ, zero, suc, ◌+◌, ◌<◌, ◌≤◌, Bool, true, false, cond, eqb, map, length, get_or, set, sum, count_by, sym, refl, ap, ◌∙◌, arith, length-set}
+use Rattle.std.proofs.lemmas.List.FromFn.{get_or-map-range_with_len, length-range_with_len, length-map-range_with_len}
+use Rattle.std.proofs.lemmas.List.{same_lists}
+use Rattle.std.proofs.lemmas.List.Sums.{count_by-le-length, sum-map, sum_by-set}
+use Rattle.std.proofs.lemmas.Bool.Decides.{nat_tests}
+use Rattle.std.proofs.lemmas.Grind.{common_steps}
 use Rattle.std.specs.List.{range_with_len}
+use Rattle.groups.specs.declared.sparse.Sparse.{Sparse}
 use Rattle.groups.proofs.Basics.{over_cond}
 
 -- a list by index, with one place altered
 pub set_counted : {X : Type 0} (f g : ℕ → X) (n a : ℕ) (y : X) → a < n → ((k : ℕ) → g k ≡ cond (eqb k a) y (f k)) → map g (range_with_len 0 n) ≡ set (map f (range_with_len 0 n)) a y
 set_counted f g n a y h e =
     let l = length-map-range_with_len f 0 n in
-    sym (fill_by_all g (set (map f (range_with_len 0 n)) a y) n y (length-set (map f (range_with_len 0 n)) a y ∙ l) (λ k low.
-    ⊎_elim
-    (λ s. ap (λ (i : ℕ). get_or (set (map f (range_with_len 0 n)) a y) i y) s ∙ get_or-set_same (map f (range_with_len 0 n)) a y y (omega arith) ∙ sym (e k ∙ ap (λ (b : Bool). cond b y (f k)) (eq-eqb k a s)))
-    (λ d. get_or-set_other (map f (range_with_len 0 n)) a k y y d ∙ get_or-map-range_with_len f 0 n k k y low (omega arith) ∙ sym (e k ∙ ap (λ (b : Bool). cond b y (f k)) (ne_eqb k a d)))
-    (cases_eq k a)))
+    let m = length-map-range_with_len g 0 n in
+    same_lists (map g (range_with_len 0 n)) (set (map f (range_with_len 0 n)) a y) (simp length-set (omega arith)) (λ k d low.
+    let q = e k in
+    let is = get_or-map-range_with_len g 0 n k k d (omega arith) (omega arith) in
+    let was = get_or-map-range_with_len f 0 n k k d (omega arith) (omega arith) in
+    grind (arith, common_steps, nat_tests))
 
 -- no number passes a test that none does
 pub count_none : (k n : ℕ) → 0 ≡ count_by (λ _. false) (range_with_len k n)
 count_none k zero = refl
-count_none k (suc n) = omega (arith, count_none (k + 1) n, sum_by-cons (λ (_ : ℕ). 0) k (range_with_len (k + 1) n))
+count_none k (suc n) = let h = count_none (k + 1) n in grind (arith, nat_tests)
 
 pub count_le : (n : ℕ) (f : ℕ → Bool) → count_by f (range_with_len 0 n) ≤ n
 count_le n f = let l = length-range_with_len 0 n in omega (arith, count_by-le-length f (range_with_len 0 n))
@@ -46,3 +49,6 @@ count_put n a f g h e =
 -- no more are in use than there are
 pub used_below : (n : ℕ) (f : ℕ → Bool) (used lent : ℕ) → used ≡ count_by f (range_with_len 0 n) → n < lent → used < lent
 used_below n f used lent e h = omega (arith, count_le n f)
+
+pub used_in : {R : Type 0} (s : Sparse R) → s.used < length s.records.now
+used_in s = used_below _ _ s.used _ s.single s.fits

@@ -1,27 +1,21 @@
 -- A flat group's rows, by the cells that they stand for. Assumes nothing.
-use Rattle.std.proofs.Common.{◌≡◌, ℕ, zero, suc, ◌*◌, ◌<◌, Bool, true, false, cond, List, [], ◌∷◌, map, take, set, Some, sym, refl, ap, ◌∙◌, le_of_suc-le-suc, not-suc-le-zero, arith}
+use Rattle.std.proofs.Common.{◌≡◌, ℕ, zero, suc, ◌*◌, ◌<◌, Bool, true, false, cond, List, [], ◌∷◌, map, take, set, Some, sym, refl, ap, ◌∙◌, le_of_suc-le-suc, not-suc-le-zero}
 use lib.Seq.{map-set, take-set-lt}
-use Rattle.std.proofs.ByRecursion.{All-map}
-use Rattle.std.specs.List.{AllByRecursion, slice_get}
-use Rattle.cells.specs.Numbers.{Bytes}
+use Rattle.std.specs.List.{slice_get}
 use Rattle.groups.specs.declared.volumes.VolumeTable.{VolumeTable}
-use Rattle.groups.specs.Meaning.{Cell, IsCell, address_in, after_write}
+use Rattle.groups.specs.Meaning.{Cell, address_in, after_write}
 use Rattle.groups.specs.Rows.{cells_of, flat_meaning, rows_written}
 use Rattle.groups.specs.Tables.{admits, after_admit, has, kept}
-use Rattle.groups.proofs.Basics.{address_below, all_of}
+use Rattle.groups.proofs.Basics.{address_below}
 use Rattle.groups.proofs.TableCalls.{write_kept}
 use Rattle.std.proofs.lemmas.Bool.{and_parts}
 
 module _ {R : Type 0} (bytes : R → Cell) where
   pub cell_at : (rows : List R) (n a : ℕ) (r : R) → a < n → slice_get rows a ≡ Some r → slice_get (cells_of bytes n rows) a ≡ Some (bytes r)
   cell_at rows zero a r h e = absurd (not-suc-le-zero h)
-  cell_at [] (suc n) a r h e = let z : ◌≡◌ {A = ℕ} 0 1 = cc in absurd (omega arith)
+  cell_at [] (suc n) a r h e = absurd (cc)
   cell_at (x ∷ rows) (suc n) zero r h e = let s : x ≡ r = cc in ap (λ (y : R). Some (bytes y)) s
   cell_at (x ∷ rows) (suc n) (suc a) r h e = cell_at rows n a r (le_of_suc-le-suc h) e
-
-  -- whatever rows hold, they stand for cells of the kind
-  pub rows_celled : (reads : List ℕ → Bool) → ((r : R) → reads (bytes r) ≡ true) → ((r : R) → Bytes (bytes r)) → (rows : List R) → AllByRecursion (IsCell reads) (map bytes rows)
-  rows_celled reads p q rows = All-map (IsCell reads) bytes rows (all_of (λ r. IsCell reads (bytes r)) (λ r. (p r, q r)) rows)
 
   rows_if : (test : Bool) (n a : ℕ) (rows : List R) (row : R) → (test ≡ true → a < n) → cells_of bytes n (cond test (set rows a row) rows) ≡ cond test (set (cells_of bytes n rows) a (bytes row)) (cells_of bytes n rows)
   rows_if true n a rows row h = ap (map bytes) (take-set-lt n rows a row (h refl)) ∙ map-set bytes (take n rows) a row
@@ -30,17 +24,13 @@ module _ {R : Type 0} (bytes : R → Cell) where
   -- a row laid at the place of a write that is taken
   pub rows_written_mean : (t : VolumeTable) (rows : List R) (v b : ℕ) (row : R) → flat_meaning bytes (after_admit t v b) (rows_written t rows v b row) ≡ after_write (flat_meaning bytes t rows) v b (bytes row)
   rows_written_mean t rows v b row =
-      let n = t.volumes * t.blocks in
-      ap (kept (after_admit t v b)) (rows_if (admits t v b) n (address_in t.blocks v b) rows row (λ e. address_below t.volumes t.blocks v b (and_parts (has t v b) _ e).0))
+      let n = t.shape.volumes * t.shape.blocks in
+      ap (kept (after_admit t v b)) (rows_if (admits t v b) n (address_in t.shape.blocks v b) rows row (λ e. address_below t.shape.volumes t.shape.blocks v b (and_parts (has t v b) _ e).0))
       ∙ write_kept t v b (cells_of bytes n rows) (bytes row)
 
-  -- a write that is refused leaves the rows
-  pub rows_left : (t : VolumeTable) (rows : List R) (v b : ℕ) (row : R) → admits t v b ≡ false → rows ≡ rows_written t rows v b row
-  rows_left t rows v b row e = ap (λ (k : Bool). cond k (set rows (address_in t.blocks v b) row) rows) (sym e)
-
   -- one that is taken lays the row at the address that the table answered
-  pub rows_laid : (t : VolumeTable) (rows : List R) (v b a : ℕ) (row : R) → (admits t v b ≡ true) × (a ≡ address_in t.blocks v b) → set rows a row ≡ rows_written t rows v b row
-  rows_laid t rows v b a row e = ap (λ (k : ℕ). set rows k row) e.1 ∙ ap (λ (k : Bool). cond k (set rows (address_in t.blocks v b) row) rows) (sym e.0)
+  pub rows_laid : (t : VolumeTable) (rows : List R) (v b a : ℕ) (row : R) → (admits t v b ≡ true) × (a ≡ address_in t.shape.blocks v b) → set rows a row ≡ rows_written t rows v b row
+  rows_laid t rows v b a row e = ap (λ (k : ℕ). set rows k row) e.1 ∙ ap (λ (k : Bool). cond k (set rows (address_in t.shape.blocks v b) row) rows) (sym e.0)
 
   -- the meaning after a write, from the table and the rows after it
   pub flat_written : (t t' : VolumeTable) (rows rows' : List R) (v b : ℕ) (row : R) → t' ≡ after_admit t v b → rows' ≡ rows_written t rows v b row → flat_meaning bytes t' rows' ≡ after_write (flat_meaning bytes t rows) v b (bytes row)

@@ -1,7 +1,7 @@
 -- What is read back after a write, and when two groups hold the same. Assumes nothing.
 use Rattle.std.specs.Prelude.{◌≡◌, ℕ, cond, [], Ok, Err, Result}
 use Rattle.cells.specs.declared.fault.Fault.{Fault}
-use Rattle.groups.specs.Meaning.{Cell, GroupMeaning, inside, no_place, read_only_fault}
+use Rattle.groups.specs.Meaning.{Cell, Dimensions, GroupMeaning, dimensions, inside, no_place, read_only_fault}
 
 -- the cell written, if the write is taken
 abbrev pub read_back : GroupMeaning → ℕ → ℕ → Cell → Result Cell Fault
@@ -20,8 +20,6 @@ SameAnswers (Ok x) (Err f) = ⊥
 SameAnswers (Err f) s = ⊥
 
 -- two groups of one shape
-pub record SameShape (m n : GroupMeaning) (volumes blocks : ℕ) : Type 0 where
-  pub volumes_one : m.volumes ≡ volumes
-  pub volumes_other : n.volumes ≡ volumes
-  pub blocks_one : m.blocks ≡ blocks
-  pub blocks_other : n.blocks ≡ blocks
+pub record SameShape (m n : GroupMeaning) (shape : Dimensions) : Type 0 where
+  pub one : dimensions m ≡ shape
+  pub other : dimensions n ≡ shape

@@ -1,4 +1,5 @@
 pub mod Meaning
+pub mod Shapes
 pub mod Tables
 pub mod Marking
 pub mod Rows

@@ -2,9 +2,10 @@
 use Rattle.std.specs.Prelude.{◌≡◌, ℕ, ◌*◌, Bool, true, false, cond, not, ◌&&◌, List, [], ◌∷◌, map, length, set, nat_lt, slice_index_or, slice_set, refl}
 use Rattle.std.proofs.Common.{sym, ap, subst, ◌∙◌, arith, length-take-le}
 use Rattle.std.proofs.lemmas.List.{length-map, set-get_or}
+use Rattle.std.specs.List.{AllByRecursion}
 use Rattle.groups.specs.declared.volumes.VolumeRecord.{VolumeRecord}
 use Rattle.groups.specs.declared.volumes.VolumeTable.{VolumeTable}
-use Rattle.groups.specs.Meaning.{Cell, GroupCall, GroupLaws, GroupMeaning, address_in, after_remount, after_write, inside_of, marked, mounted, ran, remount, stored, write}
+use Rattle.groups.specs.Meaning.{Cell, GroupCall, GroupLaws, GroupMeaning, IsCell, address_in, after_remount, after_write, inside_of, marked, mounted, ran, remount, stored, write}
 use Rattle.groups.specs.Tables.{Ready, marking, marks_of, kept}
 
 -- whether such a group takes a write to a place
@@ -41,19 +42,24 @@ stands_marking (write w b x ∷ h) volumes blocks cs ms v e =
 stands_marking (remount w ∷ h) volumes blocks cs ms v e =
     subst (λ (m : GroupMeaning). slice_index_or (ran h m).marks v false ≡ true → (ran h m).takes [] v ≡ false) (sym (remount_marking volumes blocks cs ms w 0 [])) (stands_marking h volumes blocks cs _ v) e
 
-pub length-marks : (t : VolumeTable) → Ready t → length (marks_of t) ≡ t.volumes
+pub length-marks : (t : VolumeTable) → Ready t → length (marks_of t) ≡ t.shape.volumes
 length-marks t r =
     let all = map (λ (x : VolumeRecord). x.read_only) t.records in
     let l = length-map t.records (λ (x : VolumeRecord). x.read_only) in
     let e = r.1 in
     let f = r.0.1 in
-    length-take-le t.volumes all (omega arith)
+    length-take-le t.shape.volumes all (omega arith)
 
 -- a group that keeps a table and has a cell for each address is lawful
-pub kept_lawful : (t : VolumeTable) (cs : List Cell) → Ready t → length cs ≡ t.volumes * t.blocks → GroupLaws (kept t cs)
+pub kept_lawful : (t : VolumeTable) (cs : List Cell) → Ready t → length cs ≡ t.shape.volumes * t.shape.blocks → GroupLaws (kept t cs)
 kept_lawful t cs r l = record {
   shaped = r.0;
   sized = l;
   many = length-marks t r;
-  stands = λ h v. stands_marking h t.volumes t.blocks cs (marks_of t) v;
+  stands = λ h v. stands_marking h t.shape.volumes t.shape.blocks cs (marks_of t) v;
 }
+
+-- what is made of cells of the kind alone
+pub map_celled : {A : Type 0} (reads : List ℕ → Bool) (f : A → Cell) → ((x : A) → IsCell reads (f x)) → (xs : List A) → AllByRecursion (IsCell reads) (map f xs)
+map_celled reads f p [] = tt
+map_celled reads f p (x ∷ xs) = (p x, map_celled reads f p xs)

@@ -101,6 +101,14 @@ abbrev pub ran : List GroupCall → GroupMeaning → GroupMeaning
 ran [] m = m
 ran (c ∷ h) m = ran h (after c m)
 
+-- how many volumes a group has, and of how many blocks
+pub record Dimensions : Type 0 where
+  pub volumes : ℕ
+  pub blocks : ℕ
+
+abbrev pub dimensions : GroupMeaning → Dimensions
+dimensions m = record { volumes = m.volumes; blocks = m.blocks }
+
 -- 1 to 8 volumes of 1 to 512 blocks
 abbrev pub Shaped : ℕ → ℕ → Type 0
 Shaped volumes blocks = (1 ≤ volumes) × (volumes ≤ 8) × (1 ≤ blocks) × (blocks ≤ 512)

@@ -2,9 +2,10 @@
 ghost use Rattle.std.specs.Prelude.{◌≡◌, Decides};
 ghost use Rattle.cells.specs.Faults.{answered};
 ghost use Rattle.groups.specs.Compared.{SameAnswers, SameCells, SameShape, read_back};
-ghost use Rattle.groups.specs.Meaning.{after_write, read_answer};
+ghost use Rattle.groups.specs.Meaning.{after_write, dimensions, read_answer};
 
 use crate::group::Group;
+use crate::shape::Shape;
 use cells::cell::CellRow;
 use cells::fault::Fault;
 
@@ -26,41 +27,35 @@ pub fn write_then_read<R: CellRow, G: Group<R>>(
 fn same_at<R: CellRow, G: Group<R>, H: Group<R>>(one: &G, other: &H, v: usize, b: usize) -> bool
     ensures { Decides result (SameAnswers (read_answer (G.Group.meaning one.now) v b) (read_answer (H.Group.meaning other.now) v b)) }
 {
-    match one.read(v, b) {
-        Ok(cell) => match other.read(v, b) {
-            Ok(same) => cell.same(same),
-            Err(_) => false,
-        },
-        Err(_) => false,
+    match (one.read(v, b), other.read(v, b)) {
+        (Ok(cell), Ok(same)) => cell.same(same),
+        _ => false,
     }
 }
 
 // Whether the blocks of two groups of one shape have the same cells, one by one.
-fn same_cells<R: CellRow, G: Group<R>, H: Group<R>>(
-    one: &G,
-    other: &H,
-    volumes: usize,
-    blocks: usize,
-) -> bool
-    requires { SameShape (G.Group.meaning one.now) (H.Group.meaning other.now) volumes blocks }
+fn same_cells<R: CellRow, G: Group<R>, H: Group<R>>(one: &G, other: &H, shape: Shape) -> bool
+    requires { SameShape (G.Group.meaning one.now) (H.Group.meaning other.now) shape }
     ensures { Decides result ((G.Group.meaning one.now).cells ≡ (H.Group.meaning other.now).cells) }
 {
-    for a in 0..volumes * blocks {
-        if !same_at(one, other, a / blocks, a % blocks) {
-            return false;
-        }
+    let blocks = shape.blocks;
+    (0..shape.cells()).all(|a| same_at(one, other, a / blocks, a % blocks))
+}
+
+// The shape of a group.
+fn shape_of<R: CellRow, G: Group<R>>(group: &G) -> Shape
+    ensures { result ≡ dimensions (G.Group.meaning group.now) }
+{
+    Shape {
+        volumes: group.volumes(),
+        blocks: group.blocks(),
     }
-    true
 }
 
 // Whether two groups, of whatever types, have one shape and are equal cell by cell.
 pub fn equal<R: CellRow, G: Group<R>, H: Group<R>>(one: &G, other: &H) -> bool
     ensures { Decides result (SameCells (G.Group.meaning one.now) (H.Group.meaning other.now)) }
 {
-    let volumes = one.volumes();
-    let blocks = one.blocks();
-    if other.volumes() != volumes || other.blocks() != blocks {
-        return false;
-    }
-    same_cells(one, other, volumes, blocks)
+    let shape = shape_of(one);
+    shape == shape_of(other) && same_cells(one, other, shape)
 }

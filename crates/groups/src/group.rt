@@ -6,12 +6,11 @@ ghost use Rattle.groups.specs.Meaning.{Celled, GroupLaws, GroupMeaning, after_re
 use cells::cell::CellRow;
 use cells::fault::Fault;
 
-// A group of cells of one kind.
+// A group of cells of one kind. A place is told by its two numbers, as in the protocol: nothing keeps a place, so a
+// struct of them would only be made at each call and taken apart in it.
 pub trait Group<R: CellRow> {
     // Volumes, blocks, cells, marks, and what is foretold of further writes.
     ghost meaning: { Self → GroupMeaning };
-
-    ghost lawful: { (s : Self) → GroupLaws (meaning s) };
 
     fn volumes(&self) -> usize
         ensures { result ≡ (meaning self.now).volumes };
@@ -19,10 +18,9 @@ pub trait Group<R: CellRow> {
     fn blocks(&self) -> usize
         ensures { result ≡ (meaning self.now).blocks };
 
-    // The cell of block `b` of volume `v`. Whatever the group holds is a cell of the kind.
+    // The cell of block `b` of volume `v`.
     fn read(&self, v: usize, b: usize) -> Result<R, Fault>
-        ensures answer { answered R.CellRow.bytes result ≡ read_answer (meaning self.now) v b }
-        ensures celled { Celled R.CellRow.reads (meaning self.now) };
+        ensures { answered R.CellRow.bytes result ≡ read_answer (meaning self.now) v b };
 
     // Replaces the cell of block `b` of volume `v`, or is refused and leaves the volume read-only.
     fn write(&mut self, v: usize, b: usize, cell: R) -> Result<(), Fault>
@@ -33,4 +31,10 @@ pub trait Group<R: CellRow> {
     fn remount(&mut self, v: usize) -> Result<(), Fault>
         ensures answer { result ≡ remount_answer (meaning self.old) v }
         ensures after { meaning self.new ≡ after_remount (meaning self.old) v };
+
+    // What holds of every group.
+    ghost lawful: { (s : Self) → GroupLaws (meaning s) };
+
+    // Whatever a group holds is a cell of the kind.
+    ghost celled: { (s : Self) → Celled R.CellRow.reads (meaning s) };
 }

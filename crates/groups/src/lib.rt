@@ -2,12 +2,10 @@
 #![tactic(auto)]
 
 pub mod compare;
-pub mod find;
 pub mod flat;
-pub mod flat_group;
 pub mod group;
 pub mod lent;
 pub mod records;
+pub mod shape;
 pub mod sparse;
-pub mod sparse_group;
 pub mod volumes;
