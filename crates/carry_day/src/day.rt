@@ -161,13 +161,10 @@ pub(crate) fn run(
     far: &mut [Record<ReadingRow>],
     places: &mut [Place],
 ) -> Result<Tally, Fault> {
-    Flat::test(rows, 2, 96)?;
-    Sparse::test(records, 2, 96)?;
-    Sparse::test(far, 2, 96)?;
     let mut day = Day {
-        flat: Flat::over(rows, 2, 96),
-        sparse: Sparse::over(records, 2, 96),
-        carried: Sparse::over(far, 2, 96),
+        flat: Flat::new(rows, 2, 96)?,
+        sparse: Sparse::new(records, 2, 96)?,
+        carried: Sparse::new(far, 2, 96)?,
         queue: Queue::over(places, FATES),
         tally: Tally::default(),
     };
