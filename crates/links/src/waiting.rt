@@ -6,7 +6,7 @@ use crate::fate::Fate;
 use crate::place::Place;
 
 // Datagrams in the first `used` places, the first one in front. The caller lends the places, since a link allocates
-// nothing.
+// nothing. Each call says that there is as much room as before: a slice in a field might be another one after a call.
 #[derive(Drop)]
 pub(crate) struct Waiting<'a> {
     places: &'a mut [Place],
