@@ -19,7 +19,14 @@ pub struct VolumeTable {
 }
 
 impl VolumeRecord {
-    ghost use Rattle.groups.specs.Tables.{counted};
+    ghost use Rattle.groups.specs.Tables.{counted, marked_as};
+
+    // Puts the mark up, or down.
+    fn mark(&mut self, read_only: bool)
+        ensures { self.new ≡ marked_as read_only self.old }
+    {
+        self.read_only = read_only;
+    }
 
     // Counts one write more, and stops at the highest count.
     fn count(&mut self)
@@ -64,7 +71,7 @@ impl VolumeTable {
         ensures after { self.new ≡ after_alter (marked_as read_only) self.old v }
     {
         let v = self.shape.index(v)?;
-        self.records[v].read_only = read_only;
+        self.records[v].mark(read_only);
         Ok(())
     }
 
