@@ -15,7 +15,7 @@ mod tests {
 
     // A datagram is told by its number: it has so many bytes, and each is that number.
     fn datagram<'a>(rt: &impl Abort, bytes: &'a [u8; 136]) -> &'a [u8] {
-        let n = bytes[0] as usize;
+        let n = usize::from(bytes[0]);
         assert!(rt; n <= 136);
         &bytes[..n]
     }
@@ -28,7 +28,11 @@ mod tests {
     // A buffer that has the datagram at its front, and is as it was behind it.
     fn shows(rt: &impl Abort, buffer: &[u8], number: u8) {
         for (i, byte) in buffer.iter().enumerate() {
-            let wanted = if i < number as usize { number } else { 0xaa };
+            let wanted = if i < usize::from(number) {
+                number
+            } else {
+                0xaa
+            };
             assert_eq!(rt; *byte, wanted, "at {i}");
         }
     }
