@@ -24,6 +24,7 @@ fn digit(c: u8) -> Option<Nibble>
     }
 }
 
+// By hand, since a line begins at a gap, and a stage has no default of its own.
 impl Default for HexLine {
     ghost is_default = { λ l. line_of l ≡ blank };
 
@@ -61,10 +62,7 @@ impl HexLine {
     fn open(&mut self, c: u8)
         ensures { line_of self.new ≡ opened (line_of self.old).bytes (digit_of c) }
     {
-        self.stage = match digit(c) {
-            Some(high) => Stage::Half(high),
-            None => Stage::Broken,
-        };
+        self.stage = digit(c).map_or(Stage::Broken, Stage::Half);
     }
 
     // A pair's second digit.

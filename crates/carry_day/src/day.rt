@@ -1,5 +1,5 @@
 // A day of readings at a weir: two gauges, a reading each quarter of an hour.
-ghost use Rattle.std.specs.Prelude.{◌≡◌, ◌&&◌, is_ok};
+ghost use Rattle.std.specs.Prelude.{◌≡◌, ◌+◌, ◌-◌, ◌^◌, ◌&&◌, is_ok, min};
 ghost use Rattle.cells.specs.Readings.{reading_bytes};
 ghost use Rattle.groups.specs.Flats.{flat_of};
 ghost use Rattle.groups.specs.Meaning.{after_write, write_answer};
@@ -27,7 +27,9 @@ enum Gauge {
     Tailwater = 1,
 }
 
-// The quarters of an hour of a day.
+// How many volumes the groups have, one for each gauge, and how many blocks, one for each quarter of an hour of a day.
+const VOLUMES: usize = 2;
+
 const QUARTERS: u16 = 96;
 
 // What became of a day's readings.
@@ -41,6 +43,13 @@ pub struct Tally {
     // Whether the flat and the sparse group end equal, and the flat and the carried one.
     pub equal: bool,
     pub carried: bool,
+}
+
+// Counts one more, and stops at the highest count.
+fn count(n: &mut u32)
+    ensures { n.new ≡ min (n.old + 1) (2 ^ 32 - 1) }
+{
+    *n = n.saturating_add(1);
 }
 
 fn yes_or_no(answer: bool) -> &'static str {
@@ -61,7 +70,7 @@ impl fmt::Display for Tally {
     }
 }
 
-// The groups that are written alike, the one that takes what is carried, and the queue that carries it.
+// The groups that are written alike, the one that takes what is carried, the queue that carries it, and the count.
 #[derive(Drop)]
 struct Day<'a> {
     flat: Flat<'a, ReadingRow>,
@@ -119,9 +128,9 @@ impl<'a> Day<'a> {
     fn carry(&mut self, address: u16, row: ReadingRow) -> Result<(), Fault> {
         let before = self.queue.waiting();
         send_cell(&mut self.queue, address, row)?;
-        self.tally.sent = self.tally.sent.saturating_add(1);
+        count(&mut self.tally.sent);
         if self.queue.waiting() == before {
-            self.tally.lost = self.tally.lost.saturating_add(1);
+            count(&mut self.tally.lost);
         }
         Ok(())
     }
@@ -132,10 +141,11 @@ impl<'a> Day<'a> {
             let row = gauge.reading(quarter);
             let volume = gauge as u16;
             if self.write(usize::from(volume), usize::from(quarter), row) {
-                self.tally.written = self.tally.written.saturating_add(1);
+                count(&mut self.tally.written);
+                // The remainder bounds the address, whatever quarter is given.
                 self.carry(volume * QUARTERS + quarter % QUARTERS, row)?;
             } else {
-                self.tally.refused = self.tally.refused.saturating_add(1);
+                count(&mut self.tally.refused);
             }
         }
         Ok(())
@@ -161,10 +171,11 @@ pub(crate) fn run(
     far: &mut [Record<ReadingRow>],
     places: &mut [Place],
 ) -> Result<Tally, Fault> {
+    let blocks = usize::from(QUARTERS);
     let mut day = Day {
-        flat: Flat::new(rows, 2, 96)?,
-        sparse: Sparse::new(records, 2, 96)?,
-        carried: Sparse::new(far, 2, 96)?,
+        flat: Flat::new(rows, VOLUMES, blocks)?,
+        sparse: Sparse::new(records, VOLUMES, blocks)?,
+        carried: Sparse::new(far, VOLUMES, blocks)?,
         queue: Queue::over(places, FATES),
         tally: Tally::default(),
     };

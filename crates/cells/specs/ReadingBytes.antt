@@ -114,8 +114,7 @@ nine_made bs row new h l e k =
     ap Ok b ∙ sym (cond-true (reading_reads bs) (Ok bs) (Err not_a_cell) t))
     (λ (m : makes row ≡ false).
     let f = cond-false (makes row) (Ok row) (Err not_a_cell) m in
-    let z : ◌≡◌ {A = ℕ} 0 1 = cc in
-    absurd (omega arith))
+    cc)
     (cases_Bool (makes row))
 
 pub reading_zero : reading_bytes (record { level = pos 0; second = 0; quality = 0 }) ≡ replicate 9 0

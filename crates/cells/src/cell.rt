@@ -26,12 +26,12 @@ pub trait CellRow: Copy {
     fn width() -> usize
         ensures { result ≡ width };
 
-    // A row of the cell whose numbers are all 0. It is no `Default`, which may be any row of the kind.
+    // A row of the cell whose numbers are all 0. A bound of `Default` would not do: it says nothing of which row that is.
     fn zero() -> Self
         ensures { bytes result ≡ nought };
 
-    // Writes the cell's bytes at the front of the buffer, and leaves the rest of it alone. It is no `From`, which would
-    // need an array of the kind's width, a const argument that is computed; so `get`, its reverse, stands beside it.
+    // Writes the cell's bytes at the front of the buffer, and leaves the rest of it alone. This and `get` are no `From`
+    // and `TryFrom`: the array would need the kind's width as a const argument, and such arguments are not computed.
     fn put(self, out: &mut [u8; 16])
         ensures { out.new ≡ bytes self ++ drop width out.old };
 

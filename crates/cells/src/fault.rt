@@ -60,7 +60,7 @@ pub enum Side {
 }
 
 // A refusal with its place: the side that it arose on, or none, with that side's cycle, or 0,
-// and the volume where a group refused. Whoever makes a fault may give any of them, so no field is inside another's.
+// and the volume where a group refused. Side and cycle are two fields, as whoever makes a fault may give either alone.
 #[derive(Clone, Copy, PartialEq, Eq, Debug)]
 pub struct Fault {
     pub refusal: Refusal,

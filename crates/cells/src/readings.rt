@@ -54,6 +54,7 @@ impl Reading {
     }
 }
 
+// By hand, as what other rows stand for is a reading of its own choice and not of its fields'.
 impl Default for Reading {
     ghost is_default = { λ r. row_of r ≡ zeros };
 

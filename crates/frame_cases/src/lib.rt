@@ -65,9 +65,7 @@ mod tests {
 
     #[test]
     fn the_worked_datagram_is_read(rt: HostRuntime) -> Result<(), Fail> {
-        let Ok(frame) = read::<ReadingRow>(&worked_datagram()) else {
-            return Err(Fail::new("refused"));
-        };
+        let frame = read::<ReadingRow>(&worked_datagram())?;
         match &frame {
             Frame::Entries(e) => {
                 assert!(rt; e.page.cycle == 1 && e.page.number == 0 && e.page.map == 4);
@@ -83,9 +81,7 @@ mod tests {
     #[test]
     fn a_full_page_has_136_bytes(rt: HostRuntime) -> Result<(), Fail> {
         let cells = [RawBlock { high: 1, low: 2 }; 8];
-        let Ok(entries) = Entries::new(1, 511, 0xff, cells) else {
-            return Err(Fail::new("refused"));
-        };
+        let entries = Entries::new(1, 511, 0xff, cells)?;
         let mut out = [0xaa; 136];
         let n = write(&Frame::Entries(entries), &mut out);
         assert!(rt; n == 136 && out[8] == 0 && out[15] == 1 && out[135] == 2);
@@ -95,9 +91,7 @@ mod tests {
 
     #[test]
     fn the_rest_of_the_buffer_is_left_alone(rt: HostRuntime) -> Result<(), Fail> {
-        let Ok(whole) = Whole::new(0) else {
-            return Err(Fail::new("refused"));
-        };
+        let whole = Whole::new(0)?;
         let mut out = [0xaa; 136];
         let n = write::<RawBlock>(&Frame::Whole(whole), &mut out);
         assert!(rt; n == 5 && out[0] == 1 && out[4] == 0 && out[5] == 0xaa && out[135] == 0xaa);
@@ -106,15 +100,11 @@ mod tests {
 
     #[test]
     fn a_page_is_told_by_its_addresses(rt: HostRuntime) -> Result<(), Fail> {
-        let Ok(held) = Held::new(7, 511, 0x81) else {
-            return Err(Fail::new("refused"));
-        };
+        let held = Held::new(7, 511, 0x81)?;
         let mut addresses = held.page.addresses();
         assert!(rt; addresses.next() == Some(4_088) && addresses.next() == Some(4_095));
         assert!(rt; addresses.next() == None);
-        let Ok(text) = held.to_string(rt.alloc()) else {
-            return Err(Fail::new("no memory"));
-        };
+        let text = held.to_string(rt.alloc())?;
         assert!(rt; text.as_str() == "held 7 511 4088 4095");
         Ok(())
     }

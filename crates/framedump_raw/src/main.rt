@@ -1,4 +1,4 @@
-// framedump once more, run on the cases for raw blocks.
+// framedump once more, run on the cases for raw blocks: the gate runs a program once, with one list of arguments.
 #![tactic(auto)]
 
 use report::cli::framedump;

@@ -8,4 +8,3 @@ pub mod Laying
 pub mod RoundTrip
 pub mod Exactness
 pub mod Kept
-pub mod Sizes

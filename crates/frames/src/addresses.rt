@@ -37,6 +37,6 @@ impl Iterator for Addresses {
         }
         let place = self.map.trailing_zeros();
         self.map -= 1 << place;
-        Some(8 * self.number as usize + place as usize)
+        Some(8 * usize::from(self.number) + place as usize)
     }
 }

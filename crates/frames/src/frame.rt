@@ -1,7 +1,7 @@
 // Frames, one to a datagram. None can be made that reading would refuse.
 ghost use Rattle.std.specs.Prelude.{◌≡◌, ℕ, ◌<◌, ◌≤◌, length};
 
-// Addresses of one page of a cycle's delta set, at least one: bit i of the map says whether the address
+// One page of a cycle's delta set, with one or more of its addresses: bit i of the map says whether the address
 // 8 × number + i is among them.
 #[derive(Clone, Copy, PartialEq, Eq, Debug)]
 pub struct Page {
@@ -13,8 +13,8 @@ pub struct Page {
     ghost some: { (1 ≤ map) × (map < 256) },
 }
 
-// Entries of the addresses of a page: `cells[i]` for bit i. Rows whose bit is down mean nothing, so entries
-// have no `==`, which would compare those too.
+// Entries of the addresses of a page: `cells[i]` for bit i. There are eight rows whatever the map says, in memory of a fixed
+// size. Those whose bit is down mean nothing, so entries have no `==`, which would compare those too.
 #[derive(Debug, Drop)]
 pub struct Entries<R> {
     pub page: Page,

@@ -51,6 +51,7 @@ impl Marker {
     }
 }
 
+// Held addresses and entries are made of the numbers of a page, as they come, and refuse them as a page does.
 impl Held {
     pub fn new(cycle: u32, page: u16, map: u8) -> Result<Held, Fault>
         ensures { answered of_held result ≡ held_of cycle page map }

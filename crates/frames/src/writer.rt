@@ -49,6 +49,7 @@ fn write_cells<R: CellRow>(entries: &Entries<R>, out: &mut [u8]) -> usize
     at
 }
 
+// Each frame's head is laid in one piece with what is behind it, by one copy: a shared head of kind and cycle would make two.
 #[tactic(auto, using(cells::specs::BigEndian::be_two, cells::specs::BigEndian::be_four))]
 fn write_marker(marker: &Marker, out: &mut [u8; 136]) -> usize
     ensures size { result ≡ length (encoded (of_marker marker.now)) }

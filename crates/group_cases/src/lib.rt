@@ -32,20 +32,11 @@ mod tests {
         answer: Result<T, Fault>,
         fault: Fault,
     ) -> Result<(), Fail> {
-        match answer {
-            Ok(_) => Err(Fail::new("taken")),
-            Err(is) => {
-                assert!(rt; is == fault);
-                Ok(())
-            },
-        }
-    }
-
-    fn accepted<T: Drop>(answer: Result<T, Fault>) -> Result<T, Fail> {
-        match answer {
-            Ok(value) => Ok(value),
-            Err(_) => Err(Fail::new("refused")),
-        }
+        let Err(is) = answer else {
+            return Err(Fail::new("taken"));
+        };
+        assert_eq!(rt; is, fault);
+        Ok(())
     }
 
     #[test]
@@ -53,14 +44,14 @@ mod tests {
         let rows = [EMPTY; 4096];
         let shape = Fault::new(Refusal::WrongShape, Layer::Pair);
         let short = Fault::new(Refusal::ShortMemory, Layer::Pair);
-        accepted(Flat::test(&rows, 1, 1))?;
-        accepted(Flat::test(&rows, 8, 512))?;
+        Flat::test(&rows, 1, 1)?;
+        Flat::test(&rows, 8, 512)?;
         refused(&rt, Flat::test(&rows, 0, 1), shape)?;
         refused(&rt, Flat::test(&rows, 9, 1), shape)?;
         refused(&rt, Flat::test(&rows, 1, 0), shape)?;
         refused(&rt, Flat::test(&rows, 1, 513), shape)?;
         refused(&rt, Flat::test(&rows[0..0], 9, 513), shape)?;
-        accepted(Flat::test(&rows[0..6], 2, 3))?;
+        Flat::test(&rows[0..6], 2, 3)?;
         refused(&rt, Flat::test(&rows[0..5], 2, 3), short)
     }
 
@@ -70,7 +61,7 @@ mod tests {
             address: 9,
             cell: LEVEL,
         }; 7];
-        accepted(Sparse::test(&records, 2, 3))?;
+        Sparse::test(&records, 2, 3)?;
         refused(
             &rt,
             Sparse::test(&records[0..6], 2, 3),
@@ -90,22 +81,19 @@ mod tests {
         let mut rows = [EMPTY; 6];
         refused(&rt, Flat::new(&mut rows, 9, 1), shape)?;
         refused(&rt, Flat::new(&mut rows, 1, 7), short)?;
-        let mut flat = accepted(Flat::new(&mut rows, 2, 3))?;
-        accepted(flat.write(1, 2, block(1)))?;
-        assert!(rt; accepted(flat.read(1, 2))?.same(block(1)) && flat.taken(1) == Ok(1));
+        let mut flat = Flat::new(&mut rows, 2, 3)?;
+        flat.write(1, 2, block(1))?;
+        assert!(rt; flat.read(1, 2)?.same(block(1)) && flat.taken(1) == Ok(1));
         assert!(rt; rows[5].same(block(1)));
         let mut records = [Record {
             address: 0,
             cell: EMPTY,
         }; 7];
         refused(&rt, Sparse::new(&mut records, 0, 1), shape)?;
-        match Sparse::new(&mut records, 7, 1) {
-            Ok(_) => return Err(Fail::new("taken")),
-            Err(fault) => assert!(rt; fault == short),
-        }
-        let mut sparse = accepted(Sparse::new(&mut records, 2, 3))?;
-        accepted(sparse.write(0, 1, block(2)))?;
-        assert!(rt; accepted(sparse.read(0, 1))?.same(block(2)));
+        refused(&rt, Sparse::new(&mut records, 7, 1), short)?;
+        let mut sparse = Sparse::new(&mut records, 2, 3)?;
+        sparse.write(0, 1, block(2))?;
+        assert!(rt; sparse.read(0, 1)?.same(block(2)));
         assert!(rt; records[1].address == 1 && records[1].cell.same(block(2)));
         Ok(())
     }
@@ -148,21 +136,21 @@ mod tests {
         let fault = Fault::in_volume(Refusal::ReadOnly, 1);
         let mut rows = [EMPTY; 6];
         let mut flat = Flat::over(&mut rows, 3, 2);
-        accepted(flat.write(1, 0, block(1)))?;
-        accepted(flat.protect(1))?;
-        accepted(flat.protect(2))?;
+        flat.write(1, 0, block(1))?;
+        flat.protect(1)?;
+        flat.protect(2)?;
         refused(&rt, flat.write(1, 0, block(2)), fault)?;
         refused(&rt, flat.write(1, 1, block(2)), fault)?;
-        accepted(flat.write(0, 0, block(3)))?;
-        assert!(rt; accepted(flat.read(1, 0))?.same(block(1)));
-        accepted(flat.remount(1))?;
-        accepted(flat.write(1, 0, block(4)))?;
+        flat.write(0, 0, block(3))?;
+        assert!(rt; flat.read(1, 0)?.same(block(1)));
+        flat.remount(1)?;
+        flat.write(1, 0, block(4))?;
         refused(
             &rt,
             flat.write(2, 0, block(4)),
             Fault::in_volume(Refusal::ReadOnly, 2),
         )?;
-        assert!(rt; accepted(flat.read(1, 0))?.same(block(4)));
+        assert!(rt; flat.read(1, 0)?.same(block(4)));
         assert!(rt; flat.taken(0) == Ok(1) && flat.taken(1) == Ok(2) && flat.taken(2) == Ok(0));
         Ok(())
     }
@@ -171,10 +159,8 @@ mod tests {
     fn a_flat_group_begins_with_what_its_memory_holds(rt: HostRuntime) -> Result<(), Fail> {
         let mut rows = [block(5); 4];
         let mut flat = Flat::over(&mut rows, 1, 3);
-        accepted(flat.write(0, 1, block(6)))?;
-        assert!(rt;
-            accepted(flat.read(0, 0))?.same(block(5)) && accepted(flat.read(0, 1))?.same(block(6))
-        );
+        flat.write(0, 1, block(6))?;
+        assert!(rt; flat.read(0, 0)?.same(block(5)) && flat.read(0, 1)?.same(block(6)));
         assert!(rt; rows[2].same(block(5)) && rows[3].same(block(5)));
         Ok(())
     }
@@ -186,15 +172,12 @@ mod tests {
             cell: block(9),
         }; 9];
         let mut sparse = Sparse::over(&mut records, 2, 3);
-        assert!(rt; accepted(sparse.read(1, 1))?.same(block(9)));
-        accepted(sparse.write(1, 2, block(1)))?;
-        accepted(sparse.write(0, 2, block(2)))?;
-        accepted(sparse.write(1, 2, block(3)))?;
-        assert!(rt;
-            accepted(sparse.read(1, 2))?.same(block(3))
-                && accepted(sparse.read(0, 2))?.same(block(2))
-        );
-        assert!(rt; accepted(sparse.read(1, 1))?.same(block(9)));
+        assert!(rt; sparse.read(1, 1)?.same(block(9)));
+        sparse.write(1, 2, block(1))?;
+        sparse.write(0, 2, block(2))?;
+        sparse.write(1, 2, block(3))?;
+        assert!(rt; sparse.read(1, 2)?.same(block(3)) && sparse.read(0, 2)?.same(block(2)));
+        assert!(rt; sparse.read(1, 1)?.same(block(9)));
         assert!(rt; records[0].address == 4 && records[0].cell.same(block(9)));
         assert!(rt; records[1].address == 5 && records[1].cell.same(block(3)));
         assert!(rt; records[2].address == 2 && records[2].cell.same(block(2)));
@@ -216,16 +199,16 @@ mod tests {
             second: 60,
             quality: 1,
         };
-        accepted(wide.write(2, 1, row))?;
+        wide.write(2, 1, row)?;
         assert!(rt; !equal(&wide, &same) && !equal(&same, &wide));
-        accepted(same.write(2, 1, row))?;
+        same.write(2, 1, row)?;
         assert!(rt; equal(&wide, &same));
         Ok(())
     }
 
     // Takes a group by value, as one that is stacked on another would.
     fn held<G: Group<RawBlock> + Drop>(rt: &impl Abort, mut group: G) -> Result<(), Fail> {
-        assert!(rt; accepted(write_then_read(&mut group, 1, 0, block(8)))?.same(block(8)));
+        assert!(rt; write_then_read(&mut group, 1, 0, block(8))?.same(block(8)));
         refused(
             rt,
             write_then_read(&mut group, 1, 2, block(8)),
@@ -238,7 +221,7 @@ mod tests {
         let mut rows = [EMPTY; 4];
         let mut flat = Flat::over(&mut rows, 2, 2);
         held(&rt, &mut flat)?;
-        assert!(rt; accepted(flat.read(1, 0))?.same(block(8)) && flat.taken(1) == Ok(1));
+        assert!(rt; flat.read(1, 0)?.same(block(8)) && flat.taken(1) == Ok(1));
         Ok(())
     }
 

@@ -13,8 +13,8 @@ use cells::fault::Fault;
 pub struct Flat<'a, R> {
     pub(crate) rows: &'a mut [R],
     pub(crate) table: VolumeTable,
-    // The laws hold of any value, so what the table's own types say of it stands here too. It is no ghost field of the
-    // table, since the checker covers no `Result` of a struct that holds such a field beside lent memory.
+    // What the table is ready for, which the laws of any flat group need. It is no ghost field of the table: the checker
+    // covers no `Result` of a struct with lent memory that holds a struct with a ghost field.
     ghost ready: { Ready table },
     ghost fits: { table.shape.volumes * table.shape.blocks ≤ length rows.now },
 }
@@ -26,7 +26,8 @@ impl<'a, R: CellRow> Flat<'a, R> {
     ghost use Rattle.groups.specs.Shapes.{test_answer};
     ghost use Rattle.groups.specs.Tables.{after_alter, fresh_table, kept, record_of, up, volume_answer};
 
-    // Whether the shape is in range and the memory has a row for each address.
+    // Whether the shape is in range and the memory has a row for each address. A shape is given as its two numbers, of
+    // any size, and refused here: a caller has no `Shape` to give.
     pub fn test(rows: &[R], volumes: usize, blocks: usize) -> Result<(), Fault>
         ensures { result ≡ test_answer 0 volumes blocks (length rows.now) }
     {
@@ -34,7 +35,7 @@ impl<'a, R: CellRow> Flat<'a, R> {
     }
 
     // A group that holds what the rows stand for, with every mark down, if the memory has room for the shape. That a
-    // refusal leaves the memory alone is no clause, since the checker proves none of a lender that the `Ok` may hold.
+    // refusal leaves the memory alone is no clause: the checker proves none on a loan that is handed on in an `Ok` alone.
     pub fn new(rows: &'a mut [R], volumes: usize, blocks: usize) -> Result<Flat<'a, R>, Fault>
         ensures answer { answered (λ _. tt) result ≡ test_answer 0 volumes blocks (length rows.old) }
         ensures rows { IfOk result (λ f. f.rows.now ≡ rows.old) }
@@ -58,8 +59,9 @@ impl<'a, R: CellRow> Flat<'a, R> {
         }
     }
 
-    // Puts up a volume's read-only mark. This and the other calls on the table alone are a line each, here and of a
-    // sparse group: a trait of what keeps a table would be longer than they are.
+    // Puts up a volume's read-only mark. This and the other calls on the table alone have bodies of a line, here and of a
+    // sparse group, and clauses on memory of their own: a trait of what keeps a table would be longer than they are. Each
+    // call says of the lender that it stays, since a slice in a field might be another one after a call.
     pub fn protect(&mut self, v: usize) -> Result<(), Fault>
         ensures answer { result ≡ remount_answer (flat_of R.CellRow.bytes self.old) v }
         ensures after { flat_of R.CellRow.bytes self.new ≡ kept (after_alter up self.old.table v) (flat_of R.CellRow.bytes self.old).cells }

@@ -68,7 +68,8 @@ impl Shape {
         ensures answer { result ≡ place_answer self v b }
         ensures within { OnOk result (v < 8) }
     {
-        if v >= self.volumes || b >= self.blocks {
+        let v = self.index(v)?;
+        if b >= self.blocks {
             return Err(Fault::in_volume(Refusal::NoSuchPlace, v));
         }
         Ok(v * self.blocks + b)

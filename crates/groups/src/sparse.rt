@@ -18,7 +18,7 @@ pub struct Sparse<'a, R> {
     // How many are in use: the memory is lent and fixed, so it has a count beside it.
     pub(crate) used: usize,
     pub(crate) table: VolumeTable,
-    // As of a flat group.
+    // What the table is ready for, as a flat group has it.
     ghost ready: { Ready table },
     ghost fits: { table.shape.volumes * table.shape.blocks < length records.now },
     ghost single: { Single table records.now used },
@@ -40,7 +40,7 @@ impl<'a, R: CellRow> Sparse<'a, R> {
     }
 
     // A group with the first record's cell at every address, and with every mark down, if the memory has room for the
-    // shape. Of a refusal it says what a flat group's `new` does.
+    // shape. That a refusal leaves the memory alone is no clause, as for a flat group.
     pub fn new(
         records: &'a mut [Record<R>],
         volumes: usize,

@@ -5,7 +5,7 @@ use crate::shape::Shape;
 use cells::fault::{Fault, Refusal};
 
 // A volume's record: whether it is read-only, and how many writes it has taken.
-#[derive(Clone, Copy)]
+#[derive(Clone, Copy, PartialEq, Eq, Debug, Default)]
 pub struct VolumeRecord {
     pub read_only: bool,
     pub taken: u32,
@@ -42,13 +42,9 @@ impl VolumeTable {
     pub(crate) fn new(shape: Shape) -> VolumeTable
         ensures { result ≡ fresh_table shape.volumes shape.blocks }
     {
-        let unused = VolumeRecord {
-            read_only: false,
-            taken: 0,
-        };
         VolumeTable {
             shape,
-            records: [unused; 8],
+            records: [VolumeRecord::default(); 8],
         }
     }
 

@@ -16,7 +16,7 @@ pub(crate) fn hand_out(place: Option<Place>, buffer: &mut [u8]) -> Result<Option
     let front = buffer
         .first_chunk_mut()
         .ok_or(Fault::new(Refusal::ShortMemory, Layer::Link))?;
-    // No `map`: of a buffer that a closure wrote to, nothing is known after it.
+    // No `map`: tried, and with the copy in its closure what the buffer holds after it was not proved.
     match place {
         Some(place) => Ok(Some(place.copy_to(front))),
         None => Ok(None),

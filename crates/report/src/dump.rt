@@ -13,7 +13,7 @@ use std::alloc::Global;
 use std::io::{Read, Write};
 use std::marker::PhantomData;
 
-// What is known between two bytes of a capture of cells of the kind `R`, and where its lines are told.
+// What is known between two bytes of a capture. Its cells are of the kind `R`; `output` is where its lines are told.
 #[derive(Drop)]
 pub struct Dumper<'w, R, W> {
     kind: PhantomData<R>,
@@ -66,9 +66,7 @@ impl<'w, R: CellText, W: Write> Dumper<'w, R, W> {
         if b == b'\n' {
             return self.end_line();
         }
-        let mut line = self.line.take().unwrap_or_default();
-        line.push(b);
-        self.line = Some(line);
+        self.line.get_or_insert_default().push(b);
         Ok(())
     }
 

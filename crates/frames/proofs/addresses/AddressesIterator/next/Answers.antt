@@ -27,7 +27,10 @@ taken a m h k =
     ∙ ap (λ n. (a + trailing_zeros w8 m) ∷ addresses 8 a (m - n)) (sym (one_shl (trailing_zeros w8 m) 8 l.0))
 
 pub returns-clause-steps : goal.returns-clause-steps
-returns-clause-steps c = taken (8 * c.args.self.now.number) c.args.self.now.map (omega arith) (search rules)
+returns-clause-steps c =
+    let s = c.args.self.now in
+    let e : c.from.result ≡ s.number = c.from.ensures in
+    rw e (taken (8 * s.number) s.map (omega arith) (search rules))
 
 pub returns-clause-goes : goal.returns-clause-goes
 returns-clause-goes c =
