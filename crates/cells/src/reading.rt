@@ -3,9 +3,8 @@ ghost use Rattle.std.specs.Prelude.{◌≡◌, true};
 ghost use Rattle.cells.specs.Levels.{in_range};
 
 // How far a level can be trusted.
-#[derive(Clone, Copy, PartialEq, Eq, Debug, Default)]
+#[derive(Clone, Copy, PartialEq, Eq, Debug)]
 pub enum Quality {
-    #[default]
     Good = 0,
     Doubtful = 1,
     Estimated = 2,
