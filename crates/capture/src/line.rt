@@ -1,5 +1,5 @@
 // A line of a capture, as far as it has been read.
-ghost use Rattle.std.specs.Prelude.{◌<◌};
+ghost use Rattle.std.specs.Prelude.{◌<◌, ◌≤◌, length};
 
 use arrayvec::ArrayVec;
 
@@ -23,9 +23,11 @@ pub enum Stage {
     Broken,
 }
 
-// The bytes of a line's pairs, at most as many as a datagram has.
+// The bytes of a line's pairs, at most as many as a datagram has. Callers know that by the ghost field: of the vector
+// they see what is in it, and not its capacity.
 #[derive(Drop)]
 pub struct HexLine {
     pub(crate) bytes: ArrayVec<u8, 136>,
     pub(crate) stage: Stage,
+    ghost within: { length bytes.items ≤ 136 },
 }
