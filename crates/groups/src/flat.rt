@@ -88,6 +88,8 @@ impl<'a, R: CellRow> Group<R> for Flat<'a, R> {
 
     ghost meaning = { flat_of R.CellRow.bytes };
 
+    ghost lawful = { flat_lawful R.CellRow.bytes };
+
     fn volumes(&self) -> usize {
         self.table.shape.volumes
     }
@@ -122,8 +124,6 @@ impl<'a, R: CellRow> Group<R> for Flat<'a, R> {
     {
         self.table.remount(v)
     }
-
-    ghost lawful = { flat_lawful R.CellRow.bytes };
 
     ghost celled = { flat_celled R.CellRow.bytes R.CellRow.reads R.CellRow.read R.CellRow.small };
 }

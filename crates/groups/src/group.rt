@@ -12,6 +12,10 @@ pub trait Group<R: CellRow> {
     // Volumes, blocks, cells, marks, and what is foretold of further writes.
     ghost meaning: { Self → GroupMeaning };
 
+    // What holds of every group. It stands above the calls, where it is data whose type is the statement: a law, below
+    // them, cannot be cited in a clause.
+    ghost lawful: { (s : Self) → GroupLaws (meaning s) };
+
     fn volumes(&self) -> usize
         ensures { result ≡ (meaning self.now).volumes };
 
@@ -31,9 +35,6 @@ pub trait Group<R: CellRow> {
     fn remount(&mut self, v: usize) -> Result<(), Fault>
         ensures answer { result ≡ remount_answer (meaning self.old) v }
         ensures after { meaning self.new ≡ after_remount (meaning self.old) v };
-
-    // What holds of every group.
-    ghost lawful: { (s : Self) → GroupLaws (meaning s) };
 
     // Whatever a group holds is a cell of the kind.
     ghost celled: { (s : Self) → Celled R.CellRow.reads (meaning s) };

@@ -8,6 +8,8 @@ use cells::fault::Fault;
 impl<'b, R: CellRow, G: Group<R>> Group<R> for &'b mut G {
     ghost meaning = { λ s. G.Group.meaning s.now };
 
+    ghost lawful = { λ s. G.Group.lawful s.now };
+
     fn volumes(&self) -> usize {
         (**self).volumes()
     }
@@ -27,8 +29,6 @@ impl<'b, R: CellRow, G: Group<R>> Group<R> for &'b mut G {
     fn remount(&mut self, v: usize) -> Result<(), Fault> {
         (**self).remount(v)
     }
-
-    ghost lawful = { λ s. G.Group.lawful s.now };
 
     ghost celled = { λ s. G.Group.celled s.now };
 }

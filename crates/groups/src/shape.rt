@@ -8,8 +8,8 @@ use std::marker::Model;
 // 1 to 8 volumes of 1 to 512 blocks.
 #[derive(Clone, Copy, PartialEq, Eq)]
 pub struct Shape {
-    pub(crate) volumes: usize,
-    pub(crate) blocks: usize,
+    pub volumes: usize,
+    pub blocks: usize,
 }
 
 impl Model for Shape {

@@ -132,6 +132,8 @@ impl<'a, R: CellRow> Group<R> for Sparse<'a, R> {
 
     ghost meaning = { sparse_of R.CellRow.bytes };
 
+    ghost lawful = { sparse_lawful R.CellRow.bytes };
+
     fn volumes(&self) -> usize {
         self.table.shape.volumes
     }
@@ -175,8 +177,6 @@ impl<'a, R: CellRow> Group<R> for Sparse<'a, R> {
     {
         self.table.remount(v)
     }
-
-    ghost lawful = { sparse_lawful R.CellRow.bytes };
 
     ghost celled = { sparse_celled R.CellRow.bytes R.CellRow.reads R.CellRow.read R.CellRow.small };
 }

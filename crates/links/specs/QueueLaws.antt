@@ -11,7 +11,7 @@ use Rattle.links.specs.declared.queue.Queue.{Queue}
 use Rattle.links.specs.Fates.{later_fates, next_fate}
 use Rattle.links.specs.Meaning.{Datagram, LinkLaws, Sized, sendable}
 use Rattle.links.specs.Placed.{datagram_of, sized_place}
-use Rattle.links.specs.Queued.{QueueState, appended, ahead_of_last, arrived, first, held, queue_of, queue_step, rest, room, waits}
+use Rattle.links.specs.Queued.{QueueState, appended, ahead_of_last, arrived, first, held, queue_of, queue_step, queued, rest}
 use Rattle.links.specs.Steps.{StepLaws, laws_from, sent_if}
 
 -- x is d, or one of ws
@@ -63,9 +63,9 @@ step_laws n =
       taken = λ s x. in_rest x s.waits;
     }
 
+-- of any places, however many of them are said to be in use, and any letters
+pub places_laws : (ps : List Place) (n : ℕ) (fs : List ℕ) → LinkLaws (queued (length ps) (record { waits = held ps n; fates = fs }))
+places_laws ps n fs = laws_from (queue_step (length ps)) (λ (s : QueueState). s.waits) (λ (s : QueueState). first s.waits) (step_laws (length ps)) (record { waits = held ps n; fates = fs }) (sized_held ps n)
+
 pub queue_laws : (q : Queue) → LinkLaws (queue_of q)
-queue_laws q =
-    let n = room q.waiting in
-    laws_from (queue_step n) (λ (s : QueueState). s.waits) (λ (s : QueueState). first s.waits) (step_laws n)
-    (record { waits = waits q.waiting; fates = iter_rest q.fates })
-    (sized_held q.waiting.places.now q.waiting.used)
+queue_laws q = places_laws q.waiting.places.now q.waiting.used (iter_rest q.fates)

@@ -26,6 +26,8 @@ impl Latch {
 impl Link for Latch {
     ghost meaning = { latch_of };
 
+    ghost lawful = { latch_laws };
+
     fn send(&mut self, datagram: &[u8]) -> Result<(), Fault> {
         let datagram = Datagram::try_from(datagram)?;
         self.kept = Some(Place::from(datagram));
@@ -35,6 +37,4 @@ impl Link for Latch {
     fn take(&mut self, buffer: &mut [u8]) -> Result<Option<usize>, Fault> {
         hand_out(self.kept, buffer)
     }
-
-    ghost lawful = { latch_laws };
 }

@@ -29,6 +29,10 @@ pub trait Link {
     // What waits and what is answered, now and after any further calls.
     ghost meaning: { Self → LinkMeaning };
 
+    // What holds of every link: nothing waits or is taken but what was sent. It stands above the calls, where it is
+    // data whose type is the statement: a law, below them, cannot be cited of a `dyn Link`, nor in a clause.
+    ghost lawful: { (l : Self) → LinkLaws (meaning l) };
+
     // Hands a datagram to the link. It refuses only a length of 0 or above 136.
     fn send(&mut self, datagram: &[u8]) -> Result<(), Fault>
         ensures answer { result ≡ send_answer datagram.now }
@@ -40,7 +44,4 @@ pub trait Link {
         ensures answer { result ≡ take_answer buffer.old ((meaning self.old).answer []) }
         ensures buffer { buffer.new ≡ take_buffer buffer.old ((meaning self.old).answer []) }
         ensures after { meaning self.new ≡ take_meaning buffer.old (meaning self.old) };
-
-    // The laws of every link: nothing waits or is taken but what was sent.
-    ghost lawful: { (l : Self) → LinkLaws (meaning l) };
 }

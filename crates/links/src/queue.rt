@@ -50,6 +50,8 @@ impl<'a, 'f> Queue<'a, 'f> {
 impl Link for Queue<'_, '_> {
     ghost meaning = { queue_of };
 
+    ghost lawful = { queue_laws };
+
     fn send(&mut self, datagram: &[u8]) -> Result<(), Fault> {
         let datagram = Datagram::try_from(datagram)?;
         let fate = next_fate(&mut self.fates);
@@ -62,6 +64,4 @@ impl Link for Queue<'_, '_> {
         self.waiting.remove_first();
         Ok(taken)
     }
-
-    ghost lawful = { queue_laws };
 }

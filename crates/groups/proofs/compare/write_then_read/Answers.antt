@@ -10,4 +10,4 @@ returns-clause-answer g c =
     let b = c.args.b in
     c.read.ensures
     ∙ ap (λ (n : GroupMeaning). read_answer n v b) c.write.ensures.after
-    ∙ back_taken m v b (g.R.CellRow.bytes c.args.cell) c.in_ok-write.field-0 (g.met.G.Group.lawful c.args.group.now) (sym c.write.ensures.answer ∙ c.in_ok-write.was)
+    ∙ back_taken m v b (g.R.CellRow.bytes c.args.cell) c.in_ok-write.field-0 (g.G.Group.lawful c.args.group.now) (sym c.write.ensures.answer ∙ c.in_ok-write.was)
