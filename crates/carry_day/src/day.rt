@@ -103,13 +103,20 @@ impl<'a> Day<'a> {
         ensures answer { result ≡ is_ok (write_answer (sparse_of reading_bytes self.old.sparse) v b) && is_ok (write_answer (flat_of reading_bytes self.old.flat) v b) }
         ensures flat { flat_of reading_bytes self.new.flat ≡ after_write (flat_of reading_bytes self.old.flat) v b (reading_bytes row) }
         ensures sparse { sparse_of reading_bytes self.new.sparse ≡ after_write (sparse_of reading_bytes self.old.sparse) v b (reading_bytes row) }
+        ensures carried { self.new.carried ≡ self.old.carried }
+        ensures queue { self.new.queue ≡ self.old.queue }
+        ensures tally { self.new.tally ≡ self.old.tally }
     {
         let taken = self.flat.write(v, b, row).is_ok();
         self.sparse.write(v, b, row).is_ok() && taken
     }
 
     // Protects the second gauge's volume at 10 o'clock, and remounts it at 12.
-    fn guard(&mut self, quarter: u16) -> Result<(), Fault> {
+    fn guard(&mut self, quarter: u16) -> Result<(), Fault>
+        ensures carried { self.new.carried ≡ self.old.carried }
+        ensures queue { self.new.queue ≡ self.old.queue }
+        ensures tally { self.new.tally ≡ self.old.tally }
+    {
         let volume = Gauge::Tailwater as usize;
         match quarter {
             40 => {
@@ -125,7 +132,11 @@ impl<'a> Day<'a> {
     }
 
     // Sends a reading, and counts it as lost where no more datagrams wait than before.
-    fn carry(&mut self, address: u16, row: ReadingRow) -> Result<(), Fault> {
+    fn carry(&mut self, address: u16, row: ReadingRow) -> Result<(), Fault>
+        ensures flat { self.new.flat ≡ self.old.flat }
+        ensures sparse { self.new.sparse ≡ self.old.sparse }
+        ensures carried { self.new.carried ≡ self.old.carried }
+    {
         let before = self.queue.waiting();
         send_cell(&mut self.queue, address, row)?;
         count(&mut self.tally.sent);
@@ -136,7 +147,9 @@ impl<'a> Day<'a> {
     }
 
     // The readings of a quarter of an hour, written to both groups and carried where they were taken.
-    fn write_quarter(&mut self, quarter: u16) -> Result<(), Fault> {
+    fn write_quarter(&mut self, quarter: u16) -> Result<(), Fault>
+        ensures carried { self.new.carried ≡ self.old.carried }
+    {
         for gauge in Gauge::ALL {
             let row = gauge.reading(quarter);
             let volume = gauge as u16;
