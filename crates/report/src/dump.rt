@@ -10,7 +10,8 @@ use crate::told::push_line;
 use capture::line::HexLine;
 use cells::text::CellText;
 use std::alloc::Global;
-use std::io::{Read, Write};
+use std::fmt;
+use std::io::{self, Read, Write};
 use std::marker::PhantomData;
 
 // What is known between two bytes of a capture. Its cells are of the kind `R`; `output` is where its lines are told.
@@ -43,20 +44,25 @@ impl<'w, R: CellText, W: Write> Dumper<'w, R, W> {
         ensures after { OnOk result (dump_of self.new ≡ line_ended R.CellRow.width R.CellRow.reads (dump_of self.old)) }
         ensures text { OnOk result (string_bytes self.new.text ≡ line_text R.CellText.text (heard R.CellRow.width R.CellRow.reads (ended (dump_of self.old).line))) }
     {
-        let line = self.line.take().unwrap_or_default();
         self.text.clear();
-        let outcome = push_line::<R>(&line, &mut self.text)?;
+        let outcome = match &self.line {
+            Some(line) => push_line::<R>(line, &mut self.text),
+            None => push_line::<R>(&HexLine::new(), &mut self.text),
+        };
+        // Where memory runs out, the program ends with the words of an error of formatting.
+        let outcome = outcome.map_err(fmt::Error::from)?;
         self.tally.count(outcome);
-        self.tell()
+        self.line = None;
+        self.tell()?;
+        Ok(())
     }
 
     // Hands the text on, as a line.
-    fn tell(&mut self) -> anyhow::Result<()>
+    fn tell(&mut self) -> io::Result<()>
         ensures { OnOk result ((dump_of self.new ≡ dump_of self.old) × (string_bytes self.new.text ≡ string_bytes self.old.text)) }
     {
         self.output.write_all(self.text.as_bytes())?;
-        self.output.write_all(b"\n")?;
-        Ok(())
+        self.output.write_all(b"\n")
     }
 
     // One byte of the capture.
@@ -89,8 +95,9 @@ impl<'w, R: CellText, W: Write> Dumper<'w, R, W> {
             self.end_line()?;
         }
         self.text.clear();
-        write!(self.text, "{}", self.tally)?;
-        self.tell()
+        write!(self.text, "{}", self.tally).map_err(fmt::Error::from)?;
+        self.tell()?;
+        Ok(())
     }
 }
 
