@@ -7,6 +7,7 @@ use Rattle.std.proofs.lemmas.List.{take-append-drop, take_at, drop_at, drop_more
 use Rattle.std.proofs.lemmas.Int.{of_z-to_z, to_z-of_z}
 use Rattle.std.proofs.lemmas.Bool.{and_parts, cond-true, cond-false, cases_Bool, leb-true, eq-eqb, ltb-true}
 use Rattle.cells.specs.declared.reading.ReadingRow.{ReadingRow}
+use Rattle.cells.specs.declared.fault.Fault.{Fault}
 use Rattle.cells.specs.Cells.{cell_of}
 use Rattle.cells.specs.Faults.{answered, not_a_cell}
 use Rattle.cells.specs.Levels.{in_range}
@@ -115,6 +116,19 @@ nine_made bs row new h l e k =
     (λ (m : makes row ≡ false).
     let f = cond-false (makes row) (Ok row) (Err not_a_cell) m in
     cc)
+    (cases_Bool (makes row))
+
+pub nine_refused : (bs : List ℕ) (row : ReadingRow) (fault : Fault) → length bs ≡ 9 → row ≡ row_at bs → Err fault ≡ made row → answered reading_bytes (Err fault) ≡ cell_of reading_reads bs
+nine_refused bs row fault l e k =
+    ⊎_elim
+    (λ (m : makes row ≡ true).
+    let f = cond-true (makes row) (Ok row) (Err not_a_cell) m in
+    let z : ◌≡◌ {A = ℕ} 0 1 = cc in
+    absurd (omega arith))
+    (λ (m : makes row ≡ false).
+    let n : fault ≡ not_a_cell = let f = cond-false (makes row) (Ok row) (Err not_a_cell) m in cc in
+    let t : reading_reads bs ≡ false = reads_nine bs l ∙ ap makes (sym e) ∙ m in
+    ap Err n ∙ sym (cond-false (reading_reads bs) (Ok bs) (Err not_a_cell) t))
     (cases_Bool (makes row))
 
 pub reading_zero : reading_bytes (record { level = pos 0; second = 0; quality = 0 }) ≡ replicate 9 0

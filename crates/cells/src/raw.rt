@@ -57,6 +57,7 @@ impl CellRow for RawBlock {
         16
     }
 
+    #[tactic(auto, using(crate::specs::RawBytes::raw_zero))]
     fn zero() -> RawBlock {
         RawBlock::default()
     }

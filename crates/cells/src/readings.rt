@@ -149,6 +149,7 @@ impl CellRow for ReadingRow {
         9
     }
 
+    #[tactic(auto, using(crate::specs::ReadingBytes::reading_zero))]
     fn zero() -> ReadingRow {
         ReadingRow::default()
     }
